@@ -1,0 +1,5 @@
+pub mod Bytes
+pub mod Table
+pub mod Form
+pub mod Refusal
+pub mod Meaning

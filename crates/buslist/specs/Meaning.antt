@@ -1,0 +1,31 @@
+-- What an accepted list means: its settings (`settings-of`) and its calls.
+use Prim.Native.Nat.{ℕ, _+_}
+use mathlib.Core.List.{List, map}
+use mathlib.Core.Bool.{cond}
+use lib.ListN.{take, drop}
+use Rattle.buslist.specs.declared.CallEntry.{CallEntry}
+use Rattle.buslist.specs.declared.OperationEntry.{OperationEntry}
+use Rattle.buslist.specs.Table.{data-offset, operations-of, calls}
+use Rattle.buslist.specs.Form.{is-write}
+
+-- an operation: a write by its bytes, or a read by its length
+pub data Operation : Type 0 where
+  write : List ℕ → Operation
+  read : ℕ → Operation
+
+-- a call: its kind (polling 0 write, 1 read, 2 write_read, 3 transaction; blocking 4 write, 5 read, 6 write_read), address and operations
+pub record Call : Type 0 where
+  pub kind : ℕ
+  pub address : ℕ
+  pub operations : List Operation
+
+-- a write has its length of bytes from data offset + its own offset on
+unfoldable pub operation-of : List ℕ → OperationEntry → Operation
+operation-of l o = cond (is-write o) (write (take (o .length) (drop (data-offset l + o .offset) l))) (read (o .length))
+
+abbrev pub call-of : List ℕ → CallEntry → Call
+call-of l c = record { kind = c .kind; address = c .address; operations = map (operation-of l) (operations-of l c) }
+
+-- the calls of a list, in order
+abbrev pub calls-of : List ℕ → List Call
+calls-of l = map (call-of l) (calls l)

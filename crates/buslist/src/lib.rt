@@ -1,0 +1,338 @@
+// The bus list: its form, the causes that refuse it, and what it holds (document 01, "Bus list").
+use units::Hertz;
+use units::Micros;
+use units::Settings;
+ghost use mathlib.Core.Path.{_≡_};
+ghost use Rattle.units.specs.Speed.{frequency-out};
+ghost use Rattle.buslist.specs.Bytes.{byte, half, word};
+ghost use Rattle.buslist.specs.Table.{call-count, operation-count, settings-of, call-at, operation-at, operations-of, calls, operations, data-bytes};
+ghost use Rattle.buslist.specs.Form.{header-right, written, operation-right, operations-right, kind-right, call-right, calls-right, of-the-form};
+ghost use Rattle.buslist.specs.Refusal.{any, longest-operation, too-long, over-limit, too-many-cycles, timeout-out, address-out, empty-blocking, received, all-received, refusal};
+
+// A call as its 8 bytes have it.
+pub struct CallEntry {
+    pub kind: u8,
+    pub width: u8,
+    pub address: u16,
+    pub first: u16,
+    pub count: u16,
+}
+
+// An operation as its 8 bytes have it.
+pub struct OperationEntry {
+    pub direction: u8,
+    pub reserved: u8,
+    pub length: u16,
+    pub offset: u32,
+}
+
+// The byte at i, 0 past the end.
+fn byte_at(list: &[u8], i: usize) -> u8
+    ensures { λ r. ⌜ r ≡ byte (now (list .entry)) i ⌝ }
+{
+    if i < list.len() { list[i] } else { 0 }
+}
+
+fn half_at(list: &[u8], i: usize) -> u16
+    ensures { λ r. ⌜ r ≡ half (now (list .entry)) i ⌝ }
+{
+    // Past the end all bytes are 0, and i + 1 might not fit.
+    if list.len() <= i {
+        return 0;
+    }
+    byte_at(list, i) as u16 + 256 * (byte_at(list, i + 1) as u16)
+}
+
+fn word_at(list: &[u8], i: usize) -> u32
+    ensures { λ r. ⌜ r ≡ word (now (list .entry)) i ⌝ }
+{
+    if list.len() <= i {
+        return 0;
+    }
+    half_at(list, i) as u32 + 65536 * (half_at(list, i + 2) as u32)
+}
+
+pub fn call_count(list: &[u8]) -> u32
+    ensures { λ r. ⌜ r ≡ call-count (now (list .entry)) ⌝ }
+{
+    word_at(list, 0)
+}
+
+pub fn operation_count(list: &[u8]) -> u32
+    ensures { λ r. ⌜ r ≡ operation-count (now (list .entry)) ⌝ }
+{
+    word_at(list, 8)
+}
+
+pub fn read_settings(list: &[u8]) -> Settings
+    ensures { λ r. ⌜ r ≡ settings-of (now (list .entry)) ⌝ }
+{
+    Settings {
+        pclk1: Hertz(word_at(list, 24)),
+        sysclk: Hertz(word_at(list, 28)),
+        mode: units::mode_of(word_at(list, 32)),
+        frequency: Hertz(word_at(list, 36)),
+        start_timeout: Micros(word_at(list, 40)),
+        start_retries: word_at(list, 44),
+        addr_timeout: Micros(word_at(list, 48)),
+        data_timeout: Micros(word_at(list, 52)),
+    }
+}
+
+pub fn call_at(list: &[u8], k: u32) -> CallEntry
+    ensures { λ r. ⌜ r ≡ call-at (now (list .entry)) k ⌝ }
+{
+    let at = word_at(list, 4) as usize + 8 * (k as usize);
+    CallEntry {
+        kind: byte_at(list, at),
+        width: byte_at(list, at + 1),
+        address: half_at(list, at + 2),
+        first: half_at(list, at + 4),
+        count: half_at(list, at + 6),
+    }
+}
+
+pub fn operation_at(list: &[u8], j: u32) -> OperationEntry
+    ensures { λ r. ⌜ r ≡ operation-at (now (list .entry)) j ⌝ }
+{
+    let at = word_at(list, 12) as usize + 8 * (j as usize);
+    OperationEntry {
+        direction: byte_at(list, at),
+        reserved: byte_at(list, at + 1),
+        length: half_at(list, at + 2),
+        offset: word_at(list, at + 4),
+    }
+}
+
+fn header_right(list: &[u8]) -> bool
+    ensures { λ r. ⌜ r ≡ header-right (now (list .entry)) ⌝ }
+{
+    let calls = call_count(list) as usize;
+    let operations = operation_count(list) as usize;
+    let bytes = word_at(list, 16) as usize;
+    let start = word_at(list, 20) as usize;
+    (64 <= list.len())
+        & (word_at(list, 4) == 64)
+        & (word_at(list, 12) as usize == 64 + 8 * calls)
+        & (start == 64 + 8 * calls + 8 * operations)
+        & units::mode_known(word_at(list, 32))
+        & (word_at(list, 44) <= 255)
+        & (word_at(list, 56) == 0)
+        & (word_at(list, 60) == 0)
+        & (list.len() == start + bytes)
+}
+
+fn written(o: OperationEntry) -> u64
+    ensures { λ r. ⌜ r ≡ written o ⌝ }
+{
+    if o.direction == 0 { o.length as u64 } else { 0 }
+}
+
+fn operation_right(sum: u64, o: OperationEntry) -> bool
+    ensures { λ r. ⌜ r ≡ operation-right sum o ⌝ }
+{
+    let offset = o.offset as u64;
+    (o.reserved == 0) & ((o.direction == 0) & (offset == sum) | (o.direction == 1) & (offset == 0))
+}
+
+fn operations_right(list: &[u8]) -> bool
+    ensures { λ r. ⌜ r ≡ operations-right (data-bytes (now (list .entry))) 0 (operations (now (list .entry))) ⌝ }
+{
+    let n = operation_count(list);
+    let mut j = 0;
+    let mut sum = 0;
+    while j < n {
+        let o = operation_at(list, j);
+        if !operation_right(sum, o) {
+            return false;
+        }
+        sum += written(o);
+        j += 1;
+    }
+    sum == word_at(list, 16) as u64
+}
+
+fn kind_right(list: &[u8], c: CallEntry) -> bool
+    ensures { λ r. ⌜ r ≡ kind-right (c .kind) (operations-of (now (list .entry)) c) ⌝ }
+{
+    let first = operation_at(list, c.first as u32).direction;
+    let second = operation_at(list, c.first as u32 + 1).direction;
+    let one_write = (c.count == 1) & (first == 0);
+    let one_read = (c.count == 1) & (first == 1);
+    let write_then_read = (c.count == 2) & ((first == 0) & (second == 1));
+    ((c.kind == 0) | (c.kind == 4)) & one_write
+        | ((c.kind == 1) | (c.kind == 5)) & one_read
+        | ((c.kind == 2) | (c.kind == 6)) & write_then_read
+        | (c.kind == 3)
+}
+
+fn call_right(list: &[u8], sum: u64, c: CallEntry) -> bool
+    ensures { λ r. ⌜ r ≡ call-right (now (list .entry)) sum c ⌝ }
+{
+    ((c.width == 7) | (c.width == 10)) & (c.first as u64 == sum) & kind_right(list, c)
+}
+
+fn calls_right(list: &[u8]) -> bool
+    ensures { λ r. ⌜ r ≡ calls-right (now (list .entry)) 0 (calls (now (list .entry))) ⌝ }
+{
+    let n = call_count(list);
+    let mut k = 0;
+    let mut sum = 0;
+    while k < n {
+        let c = call_at(list, k);
+        if !call_right(list, sum, c) {
+            return false;
+        }
+        sum += c.count as u64;
+        k += 1;
+    }
+    sum == operation_count(list) as u64
+}
+
+// The header first: it bounds both tables by the list's length, so that no list costs more than its bytes.
+fn of_the_form(list: &[u8]) -> bool
+    ensures { λ r. ⌜ r ≡ of-the-form (now (list .entry)) ⌝ }
+{
+    if !header_right(list) {
+        return false;
+    }
+    if !operations_right(list) {
+        return false;
+    }
+    calls_right(list)
+}
+
+fn too_long(o: OperationEntry) -> bool
+    ensures { λ r. ⌜ r ≡ too-long o ⌝ }
+{
+    o.length > 4096
+}
+
+fn any_too_long(list: &[u8]) -> bool
+    ensures { λ r. ⌜ r ≡ any too-long (operations (now (list .entry))) ⌝ }
+{
+    let n = operation_count(list);
+    let mut j = 0;
+    while j < n {
+        if too_long(operation_at(list, j)) {
+            return true;
+        }
+        j += 1;
+    }
+    false
+}
+
+// Cause 21.
+fn over_limit(list: &[u8]) -> bool
+    ensures { λ r. ⌜ r ≡ over-limit (now (list .entry)) ⌝ }
+{
+    (list.len() > 32768)
+        | (call_count(list) > 256)
+        | (operation_count(list) > 1024)
+        | any_too_long(list)
+}
+
+fn too_many_cycles(timeout: Micros, sysclk: Hertz) -> bool
+    ensures { λ r. ⌜ r ≡ too-many-cycles timeout sysclk ⌝ }
+{
+    units::to_cycles(timeout, sysclk).0 > 4_294_967_295
+}
+
+// Cause 23.
+fn timeout_out(s: Settings) -> bool
+    ensures { λ r. ⌜ r ≡ timeout-out s ⌝ }
+{
+    too_many_cycles(s.start_timeout, s.sysclk)
+        | too_many_cycles(s.addr_timeout, s.sysclk)
+        | too_many_cycles(s.data_timeout, s.sysclk)
+}
+
+fn address_out(c: CallEntry) -> bool
+    ensures { λ r. ⌜ r ≡ address-out c ⌝ }
+{
+    (c.width == 10) | (c.address > 127)
+}
+
+// Cause 24.
+fn any_address_out(list: &[u8]) -> bool
+    ensures { λ r. ⌜ r ≡ any address-out (calls (now (list .entry))) ⌝ }
+{
+    let n = call_count(list);
+    let mut k = 0;
+    while k < n {
+        if address_out(call_at(list, k)) {
+            return true;
+        }
+        k += 1;
+    }
+    false
+}
+
+fn empty_blocking(list: &[u8], c: CallEntry) -> bool
+    ensures { λ r. ⌜ r ≡ empty-blocking (now (list .entry)) c ⌝ }
+{
+    ((c.kind == 4) | (c.kind == 5)) & (operation_at(list, c.first as u32).length == 0)
+}
+
+// Cause 25.
+fn any_empty_blocking(list: &[u8]) -> bool
+    ensures { λ r. ⌜ r ≡ any (empty-blocking (now (list .entry))) (calls (now (list .entry))) ⌝ }
+{
+    let n = call_count(list);
+    let mut k = 0;
+    while k < n {
+        if empty_blocking(list, call_at(list, k)) {
+            return true;
+        }
+        k += 1;
+    }
+    false
+}
+
+fn received(o: OperationEntry) -> u64
+    ensures { λ r. ⌜ r ≡ received o ⌝ }
+{
+    if o.direction == 1 { o.length as u64 } else { 0 }
+}
+
+fn all_received(list: &[u8]) -> u64
+    ensures { λ r. ⌜ r ≡ all-received (operations (now (list .entry))) ⌝ }
+{
+    let n = operation_count(list);
+    let mut j = 0;
+    let mut sum = 0;
+    while j < n {
+        sum += received(operation_at(list, j));
+        j += 1;
+    }
+    sum
+}
+
+// The first cause that refuses the list with a received buffer of rx_len bytes, or 0.
+pub fn refusal(list: &[u8], rx_len: usize) -> u32
+    ensures { λ r. ⌜ r ≡ refusal (now (list .entry)) «rx_len» ⌝ }
+{
+    if !of_the_form(list) {
+        return 20;
+    }
+    if over_limit(list) {
+        return 21;
+    }
+    let settings = read_settings(list);
+    if units::frequency_out(settings.frequency) {
+        return 22;
+    }
+    if timeout_out(settings) {
+        return 23;
+    }
+    if any_address_out(list) {
+        return 24;
+    }
+    if any_empty_blocking(list) {
+        return 25;
+    }
+    if (rx_len as u64) < all_received(list) {
+        return 26;
+    }
+    0
+}
