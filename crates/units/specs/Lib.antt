@@ -1,2 +1,3 @@
 pub mod Time
 pub mod Speed
+pub mod Setup

@@ -4,6 +4,7 @@ ghost use mathlib.Core.Bool.{Bool};
 ghost use Prim.Native.Nat.{ℕ, _*_, _/_, _<_};
 ghost use Rattle.units.specs.Time.{to-mhz, to-cycles};
 ghost use Rattle.units.specs.Speed.{mode-known, mode-of, frequency-out, cr2-word, trise-word, divisor, floor, speed-flags, ccr-field, ccr-word};
+ghost use Rattle.units.specs.Setup.{setup-of};
 
 // A clock or a bus frequency.
 pub struct Hertz(pub u32);
@@ -34,6 +35,17 @@ pub struct Settings {
     pub start_retries: u32,
     pub addr_timeout: Micros,
     pub data_timeout: Micros,
+}
+
+// What the settings come to before a run: the speed words, and the limits of the timed waits.
+pub struct Setup {
+    pub cr2: u32,
+    pub trise: u32,
+    pub ccr: u32,
+    pub start_retries: u32,
+    pub start_limit: Cycles,
+    pub addr_limit: Cycles,
+    pub data_limit: Cycles,
 }
 
 // Whole megahertz, as the Rust's `to_MHz` has them.
@@ -146,4 +158,20 @@ pub fn ccr_word(pclk1: Hertz, mode: Mode, frequency: Hertz) -> u32
 {
     let field = (ccr_field(pclk1, mode, frequency) % 4096) as u32;
     field + speed_flags(mode)
+}
+
+pub fn setup_of(settings: Settings) -> Setup
+    requires { ⌜ 0 < settings .frequency .0 ⌝ }
+    ensures { λ r. ⌜ r ≡ setup-of settings ⌝ }
+{
+    let mode = settings.mode;
+    Setup {
+        cr2: cr2_word(settings.pclk1),
+        trise: trise_word(settings.pclk1, mode),
+        ccr: ccr_word(settings.pclk1, mode, settings.frequency),
+        start_retries: settings.start_retries,
+        start_limit: to_cycles(settings.start_timeout, settings.sysclk),
+        addr_limit: to_cycles(settings.addr_timeout, settings.sysclk),
+        data_limit: to_cycles(settings.data_timeout, settings.sysclk),
+    }
 }

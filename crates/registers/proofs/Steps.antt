@@ -1,0 +1,204 @@
+-- How a function's answer carries the run on: where it is a word or well, to what is left of the steps; where not, to the end.
+-- Assumes nothing.
+use Prim.Native.Nat.{ℕ, zero, suc, _+_, _-_, _*_, _/_, _%_, _^_, _≤_, _<_}
+use native.Mathlib.Omega.{arith}
+use mathlib.Core.Bool.{Bool, true, false}
+use mathlib.Core.Logic.{⊎-elim}
+use mathlib.Core.Path.{_≡_, refl, sym, ap, _∙_}
+use mathlib.Core.List.{List, [], _∷_, _++_, append-assoc, append-nil}
+use lib.ListN.{length, drop, length-drop}
+use lib.Dec.{eqb}
+use types.Run.{OneOf}
+use denote.Enum.Declared.{tagOf}
+use Rattle.units.specs.declared.Setup.{Setup}
+use Rattle.registers.specs.declared.Bus.{Bus}
+use Rattle.registers.specs.declared.BusError.{BusError}
+use Rattle.registers.specs.declared.Source.{Source}
+use Rattle.registers.specs.declared.Cut.{Cut}
+use Rattle.registers.specs.declared.Checked.{Checked}
+use Rattle.registers.specs.declared.Outcome.{Outcome}
+use Rattle.registers.specs.declared.Flagged.{Flagged}
+use Rattle.registers.proofs.Checked as C
+use Rattle.registers.proofs.Outcome as O
+use Rattle.registers.specs.Word.{has, BERR}
+use Rattle.registers.specs.Access.{SR1, wSR1, CYC, DR, is-read, is-data, cut, clear-word, entries-in}
+use Rattle.registers.specs.Machine.{Step, Access, access, next, check-word, after-check}
+use Rattle.registers.specs.State.{State, After, Took, at, going, word, then, taking, entry, recorded, received, room, left, resume, read-one, read, write-one, write, check, check-flags, took-then, took-word}
+use Rattle.registers.specs.Contract.{outcome, checked, outcome-of, Reads, Writes, Checks, Refines, Reaches}
+use Rattle.registers.proofs.Laws.{read-law, write-law, fail-law, done-law, received-other, resume-fewer}
+
+-- the tags of an answer that is no word, and of an outcome that is not well
+abbrev pub NoWord : Checked → Type 0
+NoWord r = OneOf (1 ∷ 2 ∷ []) (tagOf C.the-type r)
+
+abbrev pub NotWell : Outcome → Type 0
+NotWell o = OneOf (1 ∷ 2 ∷ []) (tagOf O.the-type o)
+
+-- no tag is two numbers at once
+pub not-first : {A : Type 0} → OneOf (1 ∷ 2 ∷ []) 0 → A
+not-first h = ⊎-elim (λ (e : _≡_ {A = ℕ} 0 1). absurd (omega arith)) (λ (e : _≡_ {A = ℕ} 0 2). absurd (omega arith)) h
+
+-- an answer that is no word ends the run as its outcome does
+no-word : (r : Checked) → NoWord r → (rs lg rx : List ℕ) (k : ℕ → State → After) (k′ : State → After)
+    → taking (checked rs lg rx r) k ≡ then (outcome rs lg rx (outcome-of r)) k′
+no-word (Checked.Word v b) h rs lg rx k k′ = not-first h
+no-word (Checked.Failed e b) h rs lg rx k k′ = refl
+no-word (Checked.CutShort c b) h rs lg rx k k′ = refl
+
+not-well : (o : Outcome) → NotWell o → (rs lg rx : List ℕ) (k k′ : State → After)
+    → then (outcome rs lg rx o) k ≡ then (outcome rs lg rx o) k′
+not-well (Outcome.Well b) h rs lg rx k k′ = not-first h
+not-well (Outcome.Failed e b) h rs lg rx k k′ = refl
+not-well (Outcome.CutShort c b) h rs lg rx k k′ = refl
+
+-- from here on
+pub here : {s : Setup} {q : List Step} {st : State} → Reaches s q st q st
+here = record { is = λ p. refl }
+
+-- the steps that are left, written otherwise
+pub rewritten : {s : Setup} {q : List Step} {st : State} {q₁ q₂ : List Step} {st₁ : State} → q₁ ≡ q₂ → Reaches s q st q₁ st₁ → Reaches s q st q₂ st₁
+rewritten e g = rw e at g
+
+-- a read that is no DR read, for the step i
+module _ {s : Setup} {q : List Step} {st : State} {i : Step} {q₁ : List Step} {st₁ : State} (g : Reaches s q st (i ∷ q₁) st₁)
+    {c : ℕ} {rs lg rx : List ℕ} {r : Checked} (x : Reads c st₁ rs lg rx r) (a : access i ≡ Access.read c) (t : is-read c ≡ true) where
+  pub read-step : is-data c ≡ false → {v : ℕ} {b : Bus} → r ≡ Checked.Word v b → {m : List Step} → next s i v ≡ m → Reaches s q st (m ++ q₁) (at rs lg rx b)
+  read-step u {v} {b} e {m} n =
+      record { is = λ p. g .is p ∙ read-law s i c (q₁ ++ p) st₁ a t ∙ rw (← x .is, e, received-other (entry c v) (at rs lg rx b) u, n, append-assoc m q₁ p) }
+
+  pub read-stops : NoWord r → Refines s q st rs lg rx (outcome-of r)
+  read-stops h = record { is = λ p. g .is p ∙ read-law s i c (q₁ ++ p) st₁ a t ∙ rw (← x .is) (no-word r h rs lg rx _ (resume s p)) }
+
+-- a write
+module _ {s : Setup} {q : List Step} {st : State} {c v : ℕ} {q₁ : List Step} {st₁ : State} (g : Reaches s q st (Step.put c v ∷ q₁) st₁)
+    {rs lg rx : List ℕ} {o : Outcome} (x : Writes c v st₁ rs lg rx o) (t : is-read c ≡ false) where
+  pub write-step : {b : Bus} → o ≡ Outcome.Well b → Reaches s q st q₁ (at rs lg rx b)
+  write-step e = record { is = λ p. g .is p ∙ write-law s c v (q₁ ++ p) st₁ t ∙ rw (← x .is, e) }
+
+  pub write-stops : NotWell o → Refines s q st rs lg rx o
+  write-stops h = record { is = λ p. g .is p ∙ write-law s c v (q₁ ++ p) st₁ t ∙ rw (← x .is) (not-well o h rs lg rx _ _) }
+
+-- a call of a function that does the steps q₀
+module _ {s : Setup} {q₀ : List Step} {st₁ : State} {rs lg rx : List ℕ} {o : Outcome} (x : Refines s q₀ st₁ rs lg rx o)
+    (q₁ : List Step) {q : List Step} {st : State} (g : Reaches s q st (q₀ ++ q₁) st₁) where
+  pub call-step : {b : Bus} → o ≡ Outcome.Well b → Reaches s q st q₁ (at rs lg rx b)
+  call-step e = record { is = λ p. g .is p ∙ rw append-assoc (x .is (q₁ ++ p) ∙ rw e) }
+
+  pub call-stops : NotWell o → Refines s q st rs lg rx o
+  call-stops h = record { is = λ p. g .is p ∙ rw append-assoc (x .is (q₁ ++ p) ∙ not-well o h rs lg rx _ _) }
+
+-- the end
+pub ends-well : {s : Setup} {q : List Step} {st : State} {rs lg rx : List ℕ} {b : Bus} → Reaches s q st [] (at rs lg rx b) → Refines s q st rs lg rx (Outcome.Well b)
+ends-well g = record { is = λ p. g .is p }
+
+pub ends-failed : {s : Setup} {q : List Step} {st : State} {rs lg rx : List ℕ} {b : Bus} {e : BusError} {q₁ : List Step}
+    → Reaches s q st (Step.fail e ∷ q₁) (at rs lg rx b) → Refines s q st rs lg rx (Outcome.Failed e b)
+ends-failed {s} {e = e} {q₁} g = record { is = λ p. g .is p ∙ fail-law s e (q₁ ++ p) _ }
+
+-- the last thing done is a read for its own sake, a write, or a call
+pub read-last : {s : Setup} {q : List Step} {st : State} {i : Step} {st₁ : State} (g : Reaches s q st (i ∷ []) st₁)
+    {c : ℕ} {rs lg rx : List ℕ} {r : Checked} (x : Reads c st₁ rs lg rx r) → access i ≡ Access.read c → is-read c ≡ true → is-data c ≡ false
+    → ((v : ℕ) → next s i v ≡ []) → Refines s q st rs lg rx (outcome-of r)
+read-last {s} {q} {st} {i} {st₁} g {c} {rs} {lg} {rx} {r} x a t u n = record { is = λ p. g .is p ∙ read-law s i c p st₁ a t ∙ rw (← x .is) (go p r) }
+  where
+    go : (p : List Step) (r : Checked)
+        → taking (checked rs lg rx r) (λ v st′. resume s (next s i v ++ p) (received (entry c v) st′)) ≡ then (outcome rs lg rx (outcome-of r)) (resume s p)
+    go p (Checked.Word v b) = rw (n, received-other (entry c v) (at rs lg rx b) u)
+    go p (Checked.Failed e b) = refl
+    go p (Checked.CutShort c b) = refl
+
+pub write-last : {s : Setup} {q : List Step} {st : State} {c v : ℕ} {st₁ : State} → Reaches s q st (Step.put c v ∷ []) st₁
+    → {rs lg rx : List ℕ} {o : Outcome} → Writes c v st₁ rs lg rx o → is-read c ≡ false → Refines s q st rs lg rx o
+write-last {s} {q} {st} {c} {v} {st₁} g x t = record { is = λ p. g .is p ∙ write-law s c v p st₁ t ∙ rw (← x .is) }
+
+pub call-last : {s : Setup} {q : List Step} {st : State} {q₁ : List Step} {st₁ : State} → Reaches s q st q₁ st₁
+    → {rs lg rx : List ℕ} {o : Outcome} → Refines s q₁ st₁ rs lg rx o → Refines s q st rs lg rx o
+call-last g x = record { is = λ p. g .is p ∙ x .is p }
+
+-- a read of DR: its low byte is received
+pub data-step : {s : Setup} {st : State} {rs lg rx : List ℕ} {r : Checked} → Reads DR st rs lg rx r → {v : ℕ} {b : Bus} → r ≡ Checked.Word v b
+    → {rx′ : List ℕ} {b′ : Bus} → received (entry DR v) (at rs lg rx b) ≡ at rs lg rx′ b′ → Refines s (Step.get DR ∷ []) st rs lg rx′ (Outcome.Well b′)
+unfolding next
+data-step {s} {st} x e f = record { is = λ p. read-law s (Step.get DR) DR p st refl refl ∙ rw (← x .is, e, f) }
+
+-- what a word read says of the accesses that still fit: fewer
+pub record Fell (lg : List ℕ) (b b′ : Bus) : Type 0 where
+  pub fits : b .made < entries-in (length lg)
+  pub more : b .made < b′ .made
+
+abbrev made-of : Took → ℕ
+made-of (Took.word v (at rs lg rx b)) = b .made
+made-of (Took.failed e st) = 0
+made-of (Took.cut-short c st) = 0
+
+pub read-fell : {c : ℕ} {rs lg rx : List ℕ} {b : Bus} {rs′ lg′ rx′ : List ℕ} {r : Checked} {v : ℕ} {b′ : Bus}
+    → Reads c (at rs lg rx b) rs′ lg′ rx′ r → r ≡ Checked.Word v b′ → Fell lg b b′
+unfolding read read-one recorded room
+read-fell {c} {rs} {lg} {rx} {b} {rs′} {lg′} {rx′} {r} {v} {b′} x e =
+    go (left (at rs lg rx b)) (room (at rs lg rx b)) refl (ap (checked rs′ lg′ rx′) (sym e) ∙ x .is)
+  where
+    go : (ws : List ℕ) (n : ℕ) → room (at rs lg rx b) ≡ n → Took.word v (at rs′ lg′ rx′ b′) ≡ read-one c (at rs lg rx b) ws n → Fell lg b b′
+    go ws zero h k = let z : _≡_ {A = ℕ} 0 1 = cc in absurd (omega arith)
+    go [] (suc n) h k = let z : _≡_ {A = ℕ} 0 1 = cc in absurd (omega arith)
+    go (w ∷ ws) (suc n) h k = record { fits = omega arith; more = omega (arith, ap made-of k) }
+
+abbrev value-of : Took → ℕ
+value-of (Took.word v st) = v
+value-of (Took.failed e st) = 0
+value-of (Took.cut-short c st) = 0
+
+-- a register word is 16 bits wide
+pub read-small : {c : ℕ} {st : State} {rs lg rx : List ℕ} {r : Checked} {v : ℕ} {b : Bus}
+    → Reads c st rs lg rx r → eqb c CYC ≡ false → r ≡ Checked.Word v b → v < 65536
+unfolding read read-one cut
+read-small {c} {st} {rs} {lg} {rx} {r} {v} {b} x t e = go (left st) (room st) (ap (checked rs lg rx) (sym e) ∙ x .is)
+  where
+    go : (ws : List ℕ) (n : ℕ) → Took.word v (at rs lg rx b) ≡ read-one c st ws n → v < 65536
+    go ws zero k = let z : _≡_ {A = ℕ} 0 1 = cc in absurd (omega arith)
+    go [] (suc n) k = let z : _≡_ {A = ℕ} 0 1 = cc in absurd (omega arith)
+    go (w ∷ ws) (suc n) k = omega (arith, (rw t at (ap value-of k)))
+
+abbrev bus-of : Took → Bus → Bus
+bus-of (Took.word v (at rs lg rx b)) d = b
+bus-of (Took.failed e st) d = d
+bus-of (Took.cut-short c st) d = d
+
+-- a read uses a reading that is there, and receives no byte by itself
+pub record Counted (rs : List ℕ) (b b′ : Bus) : Type 0 where
+  pub there : b .used < length rs
+  pub used : b′ .used ≡ b .used + 1
+  pub got : b′ .got ≡ b .got
+
+pub read-counts : {c : ℕ} {rs lg rx : List ℕ} {b : Bus} {rs′ lg′ rx′ : List ℕ} {r : Checked} {v : ℕ} {b′ : Bus}
+    → Reads c (at rs lg rx b) rs′ lg′ rx′ r → is-read c ≡ true → r ≡ Checked.Word v b′ → Counted rs b b′
+unfolding read read-one recorded left
+read-counts {c} {rs} {lg} {rx} {b} {rs′} {lg′} {rx′} {r} {v} {b′} x t e =
+    go (left (at rs lg rx b)) (room (at rs lg rx b)) refl (ap (checked rs′ lg′ rx′) (sym e) ∙ x .is)
+  where
+    go : (ws : List ℕ) (n : ℕ) → drop (b .used) rs ≡ ws → Took.word v (at rs′ lg′ rx′ b′) ≡ read-one c (at rs lg rx b) ws n → Counted rs b b′
+    go ws zero l k = let z : _≡_ {A = ℕ} 0 1 = cc in absurd (omega arith)
+    go [] (suc n) l k = let z : _≡_ {A = ℕ} 0 1 = cc in absurd (omega arith)
+    go (w ∷ ws) (suc n) l k =
+        let e = ap (λ (z : Took). bus-of z b) k in
+        record {
+          there = omega (arith, simp length-drop at (ap length l));
+          used = rw t at (ap (λ (z : Bus). z .used) e);
+          got = ap (λ (z : Bus). z .got) e;
+        }
+
+abbrev no-setup : Setup
+no-setup =
+    record {
+      cr2 = 0;
+      trise = 0;
+      ccr = 0;
+      «start_retries» = 0;
+      «start_limit» = record { 0 = 0 };
+      «addr_limit» = record { 0 = 0 };
+      «data_limit» = record { 0 = 0 };
+    }
+
+pub refines-fewer : {q : List Step} {rs lg rx : List ℕ} {b : Bus} {rs′ lg′ rx′ : List ℕ} {o : Outcome} {b′ : Bus}
+    → ((s : Setup) → Refines s q (at rs lg rx b) rs′ lg′ rx′ o) → o ≡ Outcome.Well b′ → b .got ≤ b .used → b′ .got ≤ b′ .used
+refines-fewer {q} {rs} {lg} {rx} {b} {rs′} {lg′} {rx′} {o} {b′} x e h =
+    resume-fewer no-setup q (at rs lg rx b) (at rs′ lg′ rx′ b′) (rw append-nil at (x no-setup .is []) ∙ rw (e, done-law)) h

@@ -1,0 +1,19 @@
+use mathlib.Core.Path.{_≡_, refl, sym, ap, _∙_}
+use Rattle.registers.specs.Machine.{next}
+use Rattle.registers.proofs.Steps.{here, read-last}
+use borrow.Author.Needs.{needs}
+use Rattle.registers.proofs.get.Statement.{statement}
+use Rattle.registers.proofs.get.Tie as tie
+
+returns : tie.Need-returns
+unfolding next
+returns c s rx = rw (c .outcome-of .ensures) (read-last here (c .before .before .before .read .ensures rx) refl (c .before .before .before .before .before .before .before .pre .0) (c .before .before .before .before .before .before .before .pre .1) (λ v. refl))
+
+pub get-spec : {M : Type 1} → statement M
+get-spec =
+    tie.close
+    (tie.spec
+    (λ c κs. search needs)
+    (λ c κs. search needs)
+    (λ c. search needs)
+    returns)

@@ -1,0 +1,40 @@
+use native.Mathlib.Omega.{arith}
+use mathlib.Core.Path.{_≡_, refl, sym, ap, _∙_}
+use mathlib.Core.Logic.{⊎-elim}
+use borrow.Author.Tests.{leb-true, leb-false}
+use Rattle.registers.proofs.Laws.{read-full, read-empty, read-done, cut-register, cut-cycles}
+use borrow.Author.Needs.{needs}
+use Rattle.registers.proofs.read.Statement.{statement}
+use Rattle.registers.proofs.read.Tie as tie
+
+returns : tie.Need-returns
+returns c rx = record { is = sym (read-full _ _ _ _ _ (leb-true _ _ (sym (c .before .full .ensures) ∙ c .if1 .taken))) }
+
+returns-2 : tie.Need-returns-2
+returns-2 c rx = record { is = sym (read-empty _ _ _ _ _ (leb-false _ _ (sym (c .before .before .full .ensures) ∙ c .before .if1 .left)) (c .if2 .taken)) }
+
+put-entry-requires : tie.Need-put-entry-requires
+put-entry-requires c κs = leb-false _ _ (sym (c .before .before .before .before .before .full .ensures) ∙ c .before .before .before .before .if1 .left)
+
+add-t21 : tie.Need-add-t21
+add-t21 c = let e = sym (c .before .before .before .before .before .before .before .before .full .ensures) ∙ c .before .before .before .before .before .before .before .if1 .left in omega (arith, leb-false)
+
+returns-3 : tie.Need-returns-3
+returns-3 c rx = record { is = read-done _ _ _ _ _ _ _ (c .before .before .before .before .before .before .before .before .before .before .before .before .pre) (leb-false _ _ (sym (c .before .before .before .before .before .before .before .before .full .ensures) ∙ c .before .before .before .before .before .before .before .if1 .left)) (c .before .before .before .before .before .before .if2 .left) (⊎-elim (λ w. w .1 ∙ cut-register _ _ (w .0 .taken)) (λ w. w .1 ∙ cut-cycles _ _ (w .0 .left) (c .before .before .before .before .before .shared-slice-known2 .given _ .fits)) (c .before .before .before .before .if3 .came)) (c .before .before .put-entry .ensures) }
+
+pub read-spec : {M : Type 1} → statement M
+read-spec =
+    tie.close
+    (tie.spec
+    (λ c κs. search needs)
+    (λ c. search needs)
+    returns
+    (λ c. search needs)
+    returns-2
+    (λ c. search needs)
+    (λ c. search needs)
+    put-entry-requires
+    (λ c. search needs)
+    add-t21
+    (λ c. search needs)
+    returns-3)

@@ -1,0 +1,31 @@
+use native.Mathlib.Omega.{arith}
+use mathlib.Core.Path.{_≡_, refl, sym, ap, _∙_}
+use borrow.Author.Tests.{leb-true, leb-false}
+use Rattle.registers.proofs.Laws.{write-full, write-done}
+use borrow.Author.Needs.{needs}
+use Rattle.registers.proofs.write.Statement.{statement}
+use Rattle.registers.proofs.write.Tie as tie
+
+returns : tie.Need-returns
+returns c rs rx = record { is = sym (write-full _ _ _ _ _ _ (leb-true _ _ (sym (c .before .full .ensures) ∙ c .if1 .taken))) }
+
+put-entry-requires : tie.Need-put-entry-requires
+put-entry-requires c κs = leb-false _ _ (sym (c .before .before .full .ensures) ∙ c .before .if1 .left)
+
+add-t14 : tie.Need-add-t14
+add-t14 c = let e = sym (c .before .before .before .before .before .full .ensures) ∙ c .before .before .before .before .if1 .left in omega (arith, leb-false)
+
+returns-2 : tie.Need-returns-2
+returns-2 c rs rx = record { is = write-done _ _ _ _ _ _ _ (c .before .before .before .before .before .before .before .before .pre) (leb-false _ _ (sym (c .before .before .before .before .before .full .ensures) ∙ c .before .before .before .before .if1 .left)) (c .before .before .put-entry .ensures) }
+
+pub write-spec : {M : Type 1} → statement M
+write-spec =
+    tie.close
+    (tie.spec
+    (λ c κs. search needs)
+    (λ c. search needs)
+    returns
+    put-entry-requires
+    add-t14
+    (λ c. search needs)
+    returns-2)

@@ -1,0 +1,64 @@
+-- What a function's answer means: the state that it leaves, and that the rest of the run comes to the same from there.
+use Prim.Native.Nat.{ℕ}
+use mathlib.Core.Path.{_≡_}
+use mathlib.Core.List.{List, _++_}
+use Rattle.units.specs.declared.Setup.{Setup}
+use Rattle.registers.specs.declared.Source.{Source}
+use Rattle.registers.specs.declared.Bus.{Bus}
+use Rattle.registers.specs.declared.Outcome.{Outcome}
+use Rattle.registers.specs.declared.Checked.{Checked}
+use Rattle.registers.specs.Access.{Ending}
+use Rattle.registers.specs.Machine.{Step, Handler, handle}
+use Rattle.registers.specs.State.{State, at, After, Took, then, resume, read, write, check}
+
+-- an outcome with the buffers that it leaves
+abbrev pub outcome : List ℕ → List ℕ → List ℕ → Outcome → After
+outcome rs lg rx (Outcome.Well b) = After.going (at rs lg rx b)
+outcome rs lg rx (Outcome.Failed e b) = After.failed e (at rs lg rx b)
+outcome rs lg rx (Outcome.CutShort c b) = After.cut-short c (at rs lg rx b)
+
+abbrev pub checked : List ℕ → List ℕ → List ℕ → Checked → Took
+checked rs lg rx (Checked.Word v b) = Took.word v (at rs lg rx b)
+checked rs lg rx (Checked.Failed e b) = Took.failed e (at rs lg rx b)
+checked rs lg rx (Checked.CutShort c b) = Took.cut-short c (at rs lg rx b)
+
+-- a read or a check as an outcome: the word plays no part
+abbrev pub outcome-of : Checked → Outcome
+outcome-of (Checked.Word v b) = Outcome.Well b
+outcome-of (Checked.Failed e b) = Outcome.Failed e b
+outcome-of (Checked.CutShort c b) = Outcome.CutShort c b
+
+-- how an outcome ends
+abbrev pub ending-of : Outcome → Ending
+ending-of (Outcome.Well b) = Ending.well
+ending-of (Outcome.Failed e b) = Ending.failed e
+ending-of (Outcome.CutShort c b) = Ending.cut-short c
+
+-- one read of the register c from st answers r, and leaves these readings, this record and these received bytes
+pub record Reads (c : ℕ) (st : State) (rs lg rx : List ℕ) (r : Checked) : Type 0 where
+  pub is : checked rs lg rx r ≡ read c st
+
+-- one write of v to the register c
+pub record Writes (c v : ℕ) (st : State) (rs lg rx : List ℕ) (o : Outcome) : Type 0 where
+  pub is : outcome rs lg rx o ≡ write c v st
+
+-- one check
+pub record Checks (n : Source) (st : State) (rs lg rx : List ℕ) (r : Checked) : Type 0 where
+  pub is : checked rs lg rx r ≡ check n st
+
+-- the steps q are done: whatever steps p come after them, the run goes on with p from the state left, or has ended there
+pub record Refines (s : Setup) (q : List Step) (st : State) (rs lg rx : List ℕ) (o : Outcome) : Type 0 where
+  pub is : (p : List Step) → resume s (q ++ p) st ≡ then (outcome rs lg rx o) (resume s p)
+
+-- the steps q from st come to the same as what is left of them, q′, from st′
+pub record Reaches (s : Setup) (q : List Step) (st : State) (q′ : List Step) (st′ : State) : Type 0 where
+  pub is : (p : List Step) → resume s (q ++ p) st ≡ resume s (q′ ++ p) st′
+
+-- a timed wait, whose error is left to the handler
+abbrev pub handled : Setup → Handler → List ℕ → List ℕ → List ℕ → Outcome → List Step → After
+handled s h rs lg rx (Outcome.Well b) p = resume s p (at rs lg rx b)
+handled s h rs lg rx (Outcome.Failed e b) p = resume s (handle s h e ++ p) (at rs lg rx b)
+handled s h rs lg rx (Outcome.CutShort c b) p = After.cut-short c (at rs lg rx b)
+
+pub record Waits (s : Setup) (h : Handler) (q : List Step) (st : State) (rs lg rx : List ℕ) (o : Outcome) : Type 0 where
+  pub is : (p : List Step) → resume s (q ++ p) st ≡ handled s h rs lg rx o p

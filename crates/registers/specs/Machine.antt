@@ -1,0 +1,234 @@
+-- The bus machine: what the engine does, one register access at a time.
+-- A program is a list of steps. The first step names an access; the value read decides which steps take its place.
+use Prim.Native.Nat.{ℕ, zero, suc, _+_, _-_, _%_, _^_}
+use mathlib.Core.Bool.{Bool, true, false, cond}
+use mathlib.Core.List.{List, [], _∷_, _++_}
+use lib.ListN.{length, drop}
+use lib.Dec.{leb}
+use Rattle.units.specs.declared.Setup.{Setup}
+use Rattle.registers.specs.declared.Source.{Source}
+use Rattle.registers.specs.declared.BusError.{BusError}
+use Rattle.registers.specs.declared.Cut.{Cut}
+use Rattle.registers.specs.declared.Entry.{Entry}
+use Rattle.registers.specs.declared.Bits.{Bits}
+use Rattle.registers.specs.declared.Flagged.{Flagged}
+use Rattle.registers.specs.Word.{has, with-bits, without-bits, none, one, SB, BERR, ARLO, AF, OVR, PECERR, TIMEOUT, MSL, BUSY, PE, START, STOP}
+use Rattle.registers.specs.Access.{SR1, SR2, CR1, CYC, wCR1, wCR2, wCCR, wTRISE, wSR1, cut, clear-word, reads, Ending, well, failed, cut-short}
+
+-- what a timed wait does with an error: end the call; end it, with STOP set before where it is a NoAcknowledge; or reset, with that many tries left
+pub data Handler : Type 0 where
+  ends : Handler
+  stops : Handler
+  resets : ℕ → Handler
+
+pub data Step : Type 0 where
+  fail : BusError → Step  -- the call ends with this error: no access
+  put : ℕ → ℕ → Step  -- write this value to this register
+  get : ℕ → Step  -- read this register
+  modify : Bits → Bits → Step  -- set in CR1: read it, then write it with only these bits altered: those set, these clear
+  stop-clear : Step  -- read CR1 until STOP is clear
+  check : ℕ → Source → Step  -- check until this SR1 flag is set
+  check-master : Step  -- check and read SR2 until MSL or BUSY
+  checked-master : Step  --   its SR2 read
+  check-twice : ℕ → Source → Step  -- check, and read SR1 again, until the second read has this flag
+  checked-twice : ℕ → Source → Step  --   its second read
+  flag : ℕ → Step  -- plain SR1 reads until this flag is set
+  master : Step  -- SR2 reads alone until MSL or BUSY
+  timed : ℕ → Source → ℕ → Handler → Step  -- timed wait for this SR1 flag, with this limit
+  poll : ℕ → Source → ℕ → Handler → ℕ → Step  --   its SR1 read, with the start
+  late : ℕ → Source → ℕ → Handler → ℕ → Step  --   its later CYC reads
+  timed-stop : ℕ → Step  -- timed wait for STOP to clear
+  poll-stop : ℕ → ℕ → Step  --   its CR1 read
+  late-stop : ℕ → ℕ → Step  --   its later CYC reads
+
+-- the clear of the SR1 flag that reports this error
+abbrev pub clear : BusError → Step
+clear e = put wSR1 (clear-word e)
+
+-- bring-up (`init`): CR2, TRISE and CCR, then PE in CR1
+abbrev pub bring-up : Setup → List Step
+bring-up s = put wCR2 (s .cr2) ∷ put wTRISE (s .trise) ∷ put wCCR (s .ccr) ∷ modify (one PE) none ∷ []
+
+-- `reset`: CR1 8001 hex, then 0, then bring-up
+abbrev pub reset : Setup → List Step
+reset s = put wCR1 0x8001 ∷ put wCR1 0 ∷ bring-up s
+
+-- `send_start`: SR1 0, then set START
+abbrev pub send-start : Bits → List Step
+send-start on = put wSR1 0 ∷ modify on none ∷ []
+
+-- check: the first set of TIMEOUT, PECERR (Crc), OVR, AF, ARLO
+unfoldable pub check-word : Source → ℕ → Flagged
+check-word n v =
+    cond (has TIMEOUT v) (Flagged.Error BusError.Timeout)
+    (cond (has PECERR v) (Flagged.Error BusError.Crc)
+    (cond (has OVR v) (Flagged.Error BusError.Overrun)
+    (cond (has AF v) (Flagged.Error (BusError.NoAcknowledge n))
+    (cond (has ARLO v) (Flagged.Error BusError.ArbitrationLoss)
+    Flagged.Nothing))))
+
+-- after a check: it clears and ends the call; else BERR clears, and the same word is used
+unfoldable pub after-check : Flagged → Bool → List Step → List Step
+after-check (Flagged.Error e) berr next = clear e ∷ fail e ∷ []
+after-check Flagged.Nothing true next = clear BusError.Bus ∷ next
+after-check Flagged.Nothing false next = next
+
+-- poll: the first of BERR (Bus), ARLO, AF, OVR; the awaited flag plays no part
+unfoldable pub poll-word : Source → ℕ → Flagged
+poll-word n v =
+    cond (has BERR v) (Flagged.Error BusError.Bus)
+    (cond (has ARLO v) (Flagged.Error BusError.ArbitrationLoss)
+    (cond (has AF v) (Flagged.Error (BusError.NoAcknowledge n))
+    (cond (has OVR v) (Flagged.Error BusError.Overrun)
+    Flagged.Nothing)))
+
+-- blocking start, with so many tries left: SR1 0, START, timed SB; with no tries, well
+unfoldable pub start : Setup → ℕ → List Step
+start s zero = []
+start s (suc n) = send-start (one START) ++ timed SB Source.Unknown (s .«start_limit» .0) (resets n) ∷ []
+
+-- after a reset: the last answer holds
+unfoldable pub start-again : Setup → ℕ → BusError → List Step
+start-again s zero e = fail e ∷ []
+start-again s (suc n) e = start s (suc n)
+
+-- a NoAcknowledge sets STOP
+unfoldable pub stop-for : BusError → List Step
+stop-for BusError.Overrun = []
+stop-for (BusError.NoAcknowledge n) = modify (one STOP) none ∷ []
+stop-for BusError.Timeout = []
+stop-for BusError.Bus = []
+stop-for BusError.Crc = []
+stop-for BusError.ArbitrationLoss = []
+
+-- what a timed wait does with an error
+unfoldable pub handle : Setup → Handler → BusError → List Step
+handle s ends e = fail e ∷ []
+handle s stops e = stop-for e ++ fail e ∷ []
+handle s (resets n) e = reset s ++ start-again s n e
+
+-- now minus start, modulo 2^32
+unfoldable pub since : ℕ → ℕ → ℕ
+since from now = (now + (2 ^ 32 - from)) % 2 ^ 32
+
+-- after a poll: it clears, and the handler ends or retries; else ready if the flag is set, and the next CYC read if not
+unfoldable pub after-poll : Setup → Handler → Flagged → Bool → Step → List Step
+after-poll s h (Flagged.Error e) ready later = clear e ∷ handle s h e
+after-poll s h Flagged.Nothing ready later = cond ready [] (later ∷ [])
+
+-- the access that a step makes: none where the call fails
+pub data Access : Type 0 where
+  halt : BusError → Access
+  read : ℕ → Access
+  write : ℕ → ℕ → Access
+
+abbrev pub access : Step → Access
+access (fail e) = halt e
+access (put r v) = write r v
+access (get r) = read r
+access (modify on off) = read CR1
+access stop-clear = read CR1
+access (check f n) = read SR1
+access check-master = read SR1
+access checked-master = read SR2
+access (check-twice f n) = read SR1
+access (checked-twice f n) = read SR1
+access (flag f) = read SR1
+access master = read SR2
+access (timed f n l h) = read CYC
+access (poll f n l h t) = read SR1
+access (late f n l h t) = read CYC
+access (timed-stop l) = read CYC
+access (poll-stop l t) = read CR1
+access (late-stop l t) = read CYC
+
+-- what takes the step's place once its access is made, with the value read
+unfoldable pub next : Setup → Step → ℕ → List Step
+next s (fail e) v = []
+next s (put r w) v = []
+next s (get r) v = []
+next s (modify on off) v = put wCR1 (without-bits off (with-bits on v)) ∷ []
+next s stop-clear v = cond (has STOP v) (stop-clear ∷ []) []
+next s (check f n) v = after-check (check-word n v) (has BERR v) (cond (has f v) [] (check f n ∷ []))
+next s check-master v = after-check (check-word Source.Unknown v) (has BERR v) (checked-master ∷ [])
+next s checked-master v = cond (has MSL v) [] (cond (has BUSY v) [] (check-master ∷ []))
+next s (check-twice f n) v = after-check (check-word n v) (has BERR v) (checked-twice f n ∷ [])
+next s (checked-twice f n) v = cond (has f v) [] (check-twice f n ∷ [])
+next s (flag f) v = cond (has f v) [] (flag f ∷ [])
+next s master v = cond (has MSL v) [] (cond (has BUSY v) [] (master ∷ []))
+next s (timed f n l h) v = poll f n l h v ∷ []
+next s (poll f n l h t) v = after-poll s h (poll-word n v) (has f v) (late f n l h t)
+next s (late f n l h t) v = cond (leb l (since t v)) (handle s h BusError.Timeout) (poll f n l h t ∷ [])
+next s (timed-stop l) v = poll-stop l v ∷ []
+next s (poll-stop l t) v = cond (has STOP v) (late-stop l t ∷ []) []
+next s (late-stop l t) v = cond (leb l (since t v)) (fail BusError.Timeout ∷ []) (poll-stop l t ∷ [])
+
+-- what steps come to: the log of their accesses, and how they end
+pub record Ran : Type 0 where
+  pub log : List Entry
+  pub ending : Ending
+
+abbrev pub ended : Ending → Ran
+ended e = record { log = []; ending = e }
+
+abbrev pub logged : ℕ → ℕ → Ran → Ran
+logged c v r = record { log = record { code = c; value = v } ∷ r .log; ending = r .ending }
+
+-- fewer than an entry's words remain: only a step that makes no access can end the call otherwise
+unfoldable pub no-room : Access → Ran
+no-room (halt e) = ended (failed e)
+no-room (read r) = ended (cut-short Cut.NoRecord)
+no-room (write r v) = ended (cut-short Cut.NoRecord)
+
+-- one access with room for it; `on` runs the rest, given what takes the step's place and the readings left
+unfoldable pub perform : Access → (ℕ → List Step) → List ℕ → (List Step → List ℕ → Ran) → Ran
+perform (halt e) to rs on = ended (failed e)
+perform (write r v) to rs on = logged r v (on (to v) rs)
+perform (read r) to [] on = ended (cut-short Cut.NoReadings)
+perform (read r) to (w ∷ rs) on = logged r (cut r w) (on (to (cut r w)) rs)
+
+-- with no room for another access
+unfoldable pub exec-full : List Step → List ℕ → Ran
+exec-full [] rs = ended well
+exec-full (i ∷ p) rs = no-room (access i)
+
+-- with room for one access and more, where `on` runs steps with what is left of the room
+unfoldable pub exec-on : Setup → (List Step → List ℕ → Ran) → List Step → List ℕ → Ran
+exec-on s on [] rs = ended well
+exec-on s on (i ∷ p) rs = perform (access i) (λ v. next s i v ++ p) rs on
+
+-- run steps with room for so many accesses on these readings
+unfoldable pub exec : Setup → ℕ → List Step → List ℕ → Ran
+exec s zero = exec-full
+exec s (suc room) = exec-on s (exec s room)
+
+-- the calls in order, each its steps, until one does not end well: how the run ends, calls ended well, and every access
+pub record Run : Type 0 where
+  pub ending : Ending
+  pub calls : ℕ
+  pub log : List Entry
+
+-- a call that ended well, and the calls after it; or the call that stops the run
+unfoldable pub after-call : List Entry → Ending → Run → Run
+after-call log well k = record { ending = k .ending; calls = suc (k .calls); log = log ++ k .log }
+after-call log (failed e) k = record { ending = failed e; calls = 0; log = log }
+after-call log (cut-short c) k = record { ending = cut-short c; calls = 0; log = log }
+
+-- each call goes on in readings and record where the call before it left them
+unfoldable pub run : Setup → List (List Step) → ℕ → List ℕ → Run
+run s [] room rs = record { ending = well; calls = 0; log = [] }
+run s (c ∷ cs) room rs =
+    let r = exec s room c rs in
+    after-call (r .log) (r .ending) (run s cs (room - length (r .log)) (drop (reads (r .log)) rs))
+
+-- the bring-up runs before the calls and is no call
+unfoldable pub after-bring-up : List Entry → Ending → Run → Run
+after-bring-up log well k = record { ending = k .ending; calls = k .calls; log = log ++ k .log }
+after-bring-up log (failed e) k = record { ending = failed e; calls = 0; log = log }
+after-bring-up log (cut-short c) k = record { ending = cut-short c; calls = 0; log = log }
+
+-- a whole run: the bring-up, then the calls
+unfoldable pub whole-run : Setup → List (List Step) → ℕ → List ℕ → Run
+whole-run s cs room rs =
+    let r = exec s room (bring-up s) rs in
+    after-bring-up (r .log) (r .ending) (run s cs (room - length (r .log)) (drop (reads (r .log)) rs))

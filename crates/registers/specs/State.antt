@@ -1,0 +1,114 @@
+-- The state of a run, and what is still to come of it: how the machine's log fills the caller's buffers.
+use Prim.Native.Nat.{ℕ, zero, suc, _+_, _-_}
+use mathlib.Core.Bool.{Bool, true, false, cond}
+use mathlib.Core.List.{List, [], _∷_}
+use lib.ListN.{length, set, drop}
+use Rattle.units.specs.declared.Setup.{Setup}
+use Rattle.registers.specs.declared.Source.{Source}
+use Rattle.registers.specs.declared.BusError.{BusError}
+use Rattle.registers.specs.declared.Cut.{Cut}
+use Rattle.registers.specs.declared.Entry.{Entry}
+use Rattle.registers.specs.declared.Bus.{Bus}
+use Rattle.registers.specs.declared.Flagged.{Flagged}
+use Rattle.registers.specs.Word.{has, BERR}
+use Rattle.registers.specs.Access.{SR1, wSR1, is-read, is-data, cut, low-byte, clear-word, entries-in, store, Ending}
+use Rattle.registers.specs.Machine.{Step, exec, check-word}
+
+-- the readings, the record, the received buffer, and how far the run has come
+pub data State : Type 0 where
+  at : List ℕ → List ℕ → List ℕ → Bus → State
+
+abbrev pub entry : ℕ → ℕ → Entry
+entry c v = record { code = c; value = v }
+
+-- an access recorded: its entry stored, and a reading used where it is a read
+unfoldable pub recorded : Entry → State → State
+recorded e (at rs lg rx b) =
+    at rs (store lg (b .made) e) rx
+    (record { used = cond (is-read (e .code)) (b .used + 1) (b .used); made = b .made + 1; got = b .got })
+
+-- a byte received where it is a DR read
+unfoldable pub received : Entry → State → State
+received e (at rs lg rx b) =
+    at rs lg (cond (is-data (e .code)) (set rx (b .got) (low-byte (e .value))) rx)
+    (record { used = b .used; made = b .made; got = cond (is-data (e .code)) (b .got + 1) (b .got) })
+
+-- a log replayed on a state
+unfoldable pub replay : List Entry → State → State
+replay [] st = st
+replay (e ∷ es) st = replay es (received e (recorded e st))
+
+-- the accesses that the record still has room for
+unfoldable pub room : State → ℕ
+room (at rs lg rx b) = entries-in (length lg) - b .made
+
+-- the readings that are left
+unfoldable pub left : State → List ℕ
+left (at rs lg rx b) = drop (b .used) rs
+
+-- what steps come to: on from a state, or the end there
+pub data After : Type 0 where
+  going : State → After
+  failed : BusError → State → After
+  cut-short : Cut → State → After
+
+abbrev pub then : After → (State → After) → After
+then (going st) k = k st
+then (failed e st) k = failed e st
+then (cut-short c st) k = cut-short c st
+
+unfoldable pub after : Ending → State → After
+after Ending.well st = going st
+after (Ending.failed e) st = failed e st
+after (Ending.cut-short c) st = cut-short c st
+
+-- what is still to come of a run that has these steps to do
+unfoldable pub resume : Setup → List Step → State → After
+resume s p st = let r = exec s (room st) p (left st) in after (r .ending) (replay (r .log) st)
+
+-- what a read or a check comes to
+pub data Took : Type 0 where
+  word : ℕ → State → Took
+  failed : BusError → State → Took
+  cut-short : Cut → State → Took
+
+abbrev pub taking : Took → (ℕ → State → After) → After
+taking (word v st) k = k v st
+taking (failed e st) k = failed e st
+taking (cut-short c st) k = cut-short c st
+
+-- one read
+unfoldable pub read-one : ℕ → State → List ℕ → ℕ → Took
+read-one c st rs zero = cut-short Cut.NoRecord st
+read-one c st [] (suc n) = cut-short Cut.NoReadings st
+read-one c st (v ∷ rs) (suc n) = word (cut c v) (recorded (entry c (cut c v)) st)
+
+unfoldable pub read : ℕ → State → Took
+read c st = read-one c st (left st) (room st)
+
+-- one write
+unfoldable pub write-one : ℕ → ℕ → State → ℕ → After
+write-one c v st zero = cut-short Cut.NoRecord st
+write-one c v st (suc n) = going (recorded (entry c v) st)
+
+unfoldable pub write : ℕ → ℕ → State → After
+write c v st = write-one c v st (room st)
+
+-- one check: SR1 read, and the flag that it finds cleared
+abbrev pub took-then : After → (State → Took) → Took
+took-then (going st) k = k st
+took-then (failed e st) k = Took.failed e st
+took-then (cut-short c st) k = Took.cut-short c st
+
+abbrev pub took-word : Took → (ℕ → State → Took) → Took
+took-word (word v st) k = k v st
+took-word (failed e st) k = Took.failed e st
+took-word (cut-short c st) k = Took.cut-short c st
+
+abbrev pub check-flags : Flagged → Bool → ℕ → State → Took
+check-flags (Flagged.Error e) berr v st = took-then (write wSR1 (clear-word e) st) (λ st′. Took.failed e st′)
+check-flags Flagged.Nothing true v st = took-then (write wSR1 (clear-word BusError.Bus) st) (λ st′. Took.word v st′)
+check-flags Flagged.Nothing false v st = Took.word v st
+
+unfoldable pub check : Source → State → Took
+check n st = took-word (read SR1 st) (λ v st′. check-flags (check-word n v) (has BERR v) v st′)

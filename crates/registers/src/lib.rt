@@ -1,0 +1,337 @@
+// Registers, one access at a time: the words and bits of RM0008, how a call can end, one read and one write.
+ghost use mathlib.Core.Path.{_≡_};
+ghost use mathlib.Core.Bool.{Bool, true, false};
+ghost use mathlib.Core.List.{List, [], _∷_};
+ghost use Prim.Native.Nat.{ℕ, _+_, _*_, _<_, _≤_, _^_};
+ghost use lib.ListN.{length};
+ghost use Rattle.units.specs.declared.Setup.{Setup};
+ghost use Rattle.registers.specs.Word.{has, with-bit, without-bit, with-bits, without-bits};
+ghost use lib.Dec.{leb};
+ghost use Rattle.registers.specs.Access.{is-read, is-data, entries-in, store, clear-word, number, failed};
+ghost use Rattle.registers.specs.Machine.{Step};
+ghost use Rattle.registers.specs.State.{at};
+ghost use Rattle.registers.specs.Contract.{outcome-of, ending-of, Reads, Writes, Refines};
+
+// Codes of the record: reads.
+pub const SR1: u32 = 1;
+
+pub const SR2: u32 = 2;
+
+pub const CR1: u32 = 3;
+
+pub const DR: u32 = 4;
+
+pub const CYC: u32 = 5;
+
+// Codes of the record: writes.
+pub const W_CR1: u32 = 11;
+
+pub const W_CR2: u32 = 12;
+
+pub const W_CCR: u32 = 13;
+
+pub const W_TRISE: u32 = 14;
+
+pub const W_SR1: u32 = 15;
+
+pub const W_DR: u32 = 16;
+
+// Bits of SR1, by weight.
+pub const SB: u32 = 0x0001;
+
+pub const ADDR: u32 = 0x0002;
+
+pub const BTF: u32 = 0x0004;
+
+pub const RXNE: u32 = 0x0040;
+
+pub const TXE: u32 = 0x0080;
+
+pub const BERR: u32 = 0x0100;
+
+pub const ARLO: u32 = 0x0200;
+
+pub const AF: u32 = 0x0400;
+
+pub const OVR: u32 = 0x0800;
+
+pub const PECERR: u32 = 0x1000;
+
+pub const TIMEOUT: u32 = 0x4000;
+
+// Bits of SR2.
+pub const MSL: u32 = 0x0001;
+
+pub const BUSY: u32 = 0x0002;
+
+// Bits of CR1.
+pub const PE: u32 = 0x0001;
+
+pub const START: u32 = 0x0100;
+
+pub const STOP: u32 = 0x0200;
+
+pub const ACK: u32 = 0x0400;
+
+pub const POS: u32 = 0x0800;
+
+pub const SWRST: u32 = 0x8000;
+
+// Where an acknowledge was missing.
+pub enum Source {
+    Address,
+    Data,
+    Unknown,
+}
+
+pub enum BusError {
+    Overrun,
+    NoAcknowledge(Source),
+    Timeout,
+    Bus,
+    Crc,
+    ArbitrationLoss,
+}
+
+// Why a run was cut short: every reading is used, or too few record words remain.
+pub enum Cut {
+    NoReadings,
+    NoRecord,
+}
+
+// How far a run has come: readings used, accesses made, bytes received.
+pub struct Bus {
+    pub used: usize,
+    pub made: usize,
+    pub got: usize,
+}
+
+// How a call, or a part of one, ended.
+pub enum Outcome {
+    Well(Bus),
+    Failed(BusError, Bus),
+    CutShort(Cut, Bus),
+}
+
+// What a read or a check of SR1 answers: the word, or why there is none.
+pub enum Checked {
+    Word(u32, Bus),
+    Failed(BusError, Bus),
+    CutShort(Cut, Bus),
+}
+
+// The first error flag of an SR1 word.
+pub enum Flagged {
+    Error(BusError),
+    Nothing,
+}
+
+// Up to two bits of a word, by weight; 0 is no bit.
+pub struct Bits(pub u32, pub u32);
+
+// A record entry.
+pub struct Entry {
+    pub code: u32,
+    pub value: u32,
+}
+
+// Whether the bit of this weight is set.
+pub fn has(word: u32, weight: u32) -> bool
+    requires { ⌜ 0 < weight ⌝ }
+    ensures { λ r. ⌜ r ≡ has weight word ⌝ }
+{
+    word / weight % 2 == 1
+}
+
+fn with_bit(word: u32, weight: u32) -> u32
+    requires { ⌜ (word < 2 ^ 20) × (weight < 65536) ⌝ }
+    ensures { λ r. ⌜ (r ≡ with-bit weight word) × (r ≤ word + weight) ⌝ }
+{
+    if weight == 0 {
+        return word;
+    }
+    if has(word, weight) {
+        word
+    } else {
+        word + weight
+    }
+}
+
+fn without_bit(word: u32, weight: u32) -> u32
+    ensures { λ r. ⌜ r ≡ without-bit weight word ⌝ }
+{
+    if weight == 0 {
+        return word;
+    }
+    if has(word, weight) {
+        word - weight
+    } else {
+        word
+    }
+}
+
+// The word with only these bits altered: `on` set, `off` clear.
+fn altered(word: u32, on: Bits, off: Bits) -> u32
+    requires { ⌜ (word < 65536) × (on .0 < 65536) × (on .1 < 65536) ⌝ }
+    ensures { λ r. ⌜ r ≡ without-bits off (with-bits on word) ⌝ }
+{
+    let set = with_bit(with_bit(word, on.0), on.1);
+    without_bit(without_bit(set, off.0), off.1)
+}
+
+// Whether too few record words remain for another entry.
+fn full(log: &[u32], bus: Bus) -> bool
+    ensures { λ r. ⌜ r ≡ leb (entries-in (length (now (log .entry)))) (bus .made) ⌝ }
+{
+    log.len() / 2 <= bus.made
+}
+
+// Entry number k of the record.
+fn put_entry(log: &mut [u32], k: usize, entry: Entry)
+    requires { ⌜ k < entries-in (length (now log)) ⌝ }
+    ensures { λ _. ⌜ now (log .exit) ≡ store (now (log .entry)) k entry ⌝ }
+{
+    log[2 * k] = entry.code;
+    log[2 * k + 1] = entry.value;
+}
+
+// One read: the next reading, cut to its register and recorded. Record space is tested before readings.
+pub fn read(readings: &[u32], log: &mut [u32], bus: Bus, code: u32) -> Checked
+    requires { ⌜ is-read code ≡ true ⌝ }
+    ensures { λ r. ⌜ ((rx : List ℕ) → Reads code (at (now (readings .entry)) (now (log .entry)) rx bus) (now (readings .entry)) (now (log .exit)) rx r) ⌝ }
+{
+    if full(log, bus) {
+        return Checked::CutShort(Cut::NoRecord, bus);
+    }
+    let made = bus.made;
+    let used = bus.used;
+    if readings.len() <= used {
+        return Checked::CutShort(Cut::NoReadings, bus);
+    }
+    let mut value = readings[used];
+    if code != CYC {
+        value = value % 65536;
+    }
+    put_entry(log, made, Entry { code, value });
+    Checked::Word(
+        value,
+        Bus {
+            used: used + 1,
+            made: made + 1,
+            got: bus.got,
+        },
+    )
+}
+
+// One write, recorded.
+pub fn write(log: &mut [u32], bus: Bus, code: u32, value: u32) -> Outcome
+    requires { ⌜ is-read code ≡ false ⌝ }
+    ensures { λ r. ⌜ ((rs rx : List ℕ) → Writes code value (at rs (now (log .entry)) rx bus) rs (now (log .exit)) rx r) ⌝ }
+{
+    if full(log, bus) {
+        return Outcome::CutShort(Cut::NoRecord, bus);
+    }
+    let made = bus.made;
+    put_entry(log, made, Entry { code, value });
+    Outcome::Well(Bus {
+        used: bus.used,
+        made: made + 1,
+        got: bus.got,
+    })
+}
+
+// A read or a check for its own sake: the word plays no part.
+pub fn outcome_of(c: Checked) -> Outcome
+    ensures { λ r. ⌜ r ≡ outcome-of c ⌝ }
+{
+    match c {
+        Checked::Word(_, bus) => Outcome::Well(bus),
+        Checked::Failed(e, bus) => Outcome::Failed(e, bus),
+        Checked::CutShort(cut, bus) => Outcome::CutShort(cut, bus),
+    }
+}
+
+// A read of any register but DR, for its own sake.
+pub fn get(readings: &[u32], log: &mut [u32], bus: Bus, code: u32) -> Outcome
+    requires { ⌜ (is-read code ≡ true) × (is-data code ≡ false) ⌝ }
+    ensures { λ r. ⌜ ((s : Setup) (rx : List ℕ) → Refines s (Step.get code ∷ []) (at (now (readings .entry)) (now (log .entry)) rx bus) (now (readings .entry)) (now (log .exit)) rx r) ⌝ }
+{
+    outcome_of(read(readings, log, bus, code))
+}
+
+// A read of DR: its low byte is received.
+pub fn read_data(readings: &[u32], log: &mut [u32], rx: &mut [u8], bus: Bus) -> Outcome
+    requires { ⌜ bus .got ≤ bus .used ⌝ }
+    ensures { λ r. ⌜ ((s : Setup) → Refines s (Step.get 4 ∷ []) (at (now (readings .entry)) (now (log .entry)) (now (rx .entry)) bus) (now (readings .entry)) (now (log .exit)) (now (rx .exit)) r) ⌝ }
+{
+    let c = read(readings, log, bus, DR);
+    let Checked::Word(word, next) = c else {
+        return outcome_of(c);
+    };
+    let got = next.got;
+    if got < rx.len() {
+        rx[got] = (word % 256) as u8;
+    }
+    Outcome::Well(Bus {
+        used: next.used,
+        made: next.made,
+        got: got + 1,
+    })
+}
+
+// Set in CR1: read it, then write it with only these bits altered.
+pub fn modify_cr1(readings: &[u32], log: &mut [u32], bus: Bus, on: Bits, off: Bits) -> Outcome
+    requires { ⌜ (on .0 < 65536) × (on .1 < 65536) ⌝ }
+    ensures { λ r. ⌜ ((s : Setup) (rx : List ℕ) → Refines s (Step.modify on off ∷ []) (at (now (readings .entry)) (now (log .entry)) rx bus) (now (readings .entry)) (now (log .exit)) rx r) ⌝ }
+{
+    let c = read(readings, log, bus, CR1);
+    let Checked::Word(word, next) = c else {
+        return outcome_of(c);
+    };
+    write(log, next, W_CR1, altered(word, on, off))
+}
+
+// The word that clears the SR1 flag of an error. A field write starts from 0, so it is 0 for each.
+fn clear_word(_error: BusError) -> u32
+    ensures { λ r. ⌜ r ≡ clear-word «_error» ⌝ }
+{
+    0
+}
+
+// Clears the SR1 flag of an error.
+pub fn clear_flag(log: &mut [u32], bus: Bus, error: BusError) -> Outcome
+    ensures { λ r. ⌜ ((rs rx : List ℕ) → Writes 15 (clear-word error) (at rs (now (log .entry)) rx bus) rs (now (log .exit)) rx r) ⌝ }
+{
+    write(log, bus, W_SR1, clear_word(error))
+}
+
+// The number that document 01 gives an ending.
+pub fn number(outcome: Outcome) -> u32
+    ensures { λ r. ⌜ r ≡ number (ending-of outcome) ⌝ }
+{
+    match outcome {
+        Outcome::Well(_) => 0,
+        Outcome::Failed(error, _) => error_number(error),
+        Outcome::CutShort(cut, _) => match cut {
+            Cut::NoReadings => 9,
+            Cut::NoRecord => 10,
+        },
+    }
+}
+
+fn error_number(error: BusError) -> u32
+    ensures { λ r. ⌜ r ≡ number (failed error) ⌝ }
+{
+    match error {
+        BusError::Overrun => 1,
+        BusError::NoAcknowledge(source) => match source {
+            Source::Address => 2,
+            Source::Data => 3,
+            Source::Unknown => 4,
+        },
+        BusError::Timeout => 5,
+        BusError::Bus => 6,
+        BusError::Crc => 7,
+        BusError::ArbitrationLoss => 8,
+    }
+}
