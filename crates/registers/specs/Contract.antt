@@ -5,6 +5,7 @@ use mathlib.Core.List.{List, _++_}
 use Rattle.units.specs.declared.Setup.{Setup}
 use Rattle.registers.specs.declared.Source.{Source}
 use Rattle.registers.specs.declared.Bus.{Bus}
+use Rattle.registers.specs.declared.BusError.{BusError}
 use Rattle.registers.specs.declared.Outcome.{Outcome}
 use Rattle.registers.specs.declared.Checked.{Checked}
 use Rattle.registers.specs.Access.{Ending}
@@ -27,6 +28,17 @@ abbrev pub outcome-of : Checked → Outcome
 outcome-of (Checked.Word v b) = Outcome.Well b
 outcome-of (Checked.Failed e b) = Outcome.Failed e b
 outcome-of (Checked.CutShort c b) = Outcome.CutShort c b
+
+-- the answer of a check once the flag it found is cleared: its error, or its word
+abbrev pub failed-of : Outcome → BusError → Checked
+failed-of (Outcome.Well b) error = Checked.Failed error b
+failed-of (Outcome.Failed e b) error = Checked.Failed e b
+failed-of (Outcome.CutShort c b) error = Checked.CutShort c b
+
+abbrev pub word-of : Outcome → ℕ → Checked
+word-of (Outcome.Well b) word = Checked.Word word b
+word-of (Outcome.Failed e b) word = Checked.Failed e b
+word-of (Outcome.CutShort c b) word = Checked.CutShort c b
 
 -- how an outcome ends
 abbrev pub ending-of : Outcome → Ending

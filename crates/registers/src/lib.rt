@@ -10,7 +10,7 @@ ghost use lib.Dec.{leb};
 ghost use Rattle.registers.specs.Access.{is-read, is-data, entries-in, store, clear-word, number, failed};
 ghost use Rattle.registers.specs.Machine.{Step};
 ghost use Rattle.registers.specs.State.{at};
-ghost use Rattle.registers.specs.Contract.{outcome-of, ending-of, Reads, Writes, Refines};
+ghost use Rattle.registers.specs.Contract.{outcome-of, failed-of, word-of, ending-of, Reads, Writes, Refines};
 
 // Codes of the record: reads.
 pub const SR1: u32 = 1;
@@ -248,6 +248,28 @@ pub fn outcome_of(c: Checked) -> Outcome
         Checked::Word(_, bus) => Outcome::Well(bus),
         Checked::Failed(e, bus) => Outcome::Failed(e, bus),
         Checked::CutShort(cut, bus) => Outcome::CutShort(cut, bus),
+    }
+}
+
+// A check whose error flag was cleared with this outcome.
+pub fn failed_of(o: Outcome, error: BusError) -> Checked
+    ensures { λ r. ⌜ r ≡ failed-of o error ⌝ }
+{
+    match o {
+        Outcome::Well(bus) => Checked::Failed(error, bus),
+        Outcome::Failed(e, bus) => Checked::Failed(e, bus),
+        Outcome::CutShort(cut, bus) => Checked::CutShort(cut, bus),
+    }
+}
+
+// A check that goes on with its word after this outcome.
+pub fn word_of(o: Outcome, word: u32) -> Checked
+    ensures { λ r. ⌜ r ≡ word-of o word ⌝ }
+{
+    match o {
+        Outcome::Well(bus) => Checked::Word(word, bus),
+        Outcome::Failed(e, bus) => Checked::Failed(e, bus),
+        Outcome::CutShort(cut, bus) => Checked::CutShort(cut, bus),
     }
 }
 

@@ -1,0 +1,548 @@
+// The I2C master, named and ordered as the Rust's src/i2c.rs: what both engines share, then the polling engine.
+use registers::Bits;
+use registers::Bus;
+use registers::BusError;
+use registers::Checked;
+use registers::Flagged;
+use registers::Outcome;
+use registers::Source;
+use registers::clear_flag;
+use registers::failed_of;
+use registers::get;
+use registers::has;
+use registers::modify_cr1;
+use registers::outcome_of;
+use registers::read;
+use registers::read_data;
+use registers::word_of;
+use registers::write;
+use units::Setup;
+ghost use mathlib.Core.Path.{_≡_};
+ghost use mathlib.Core.Bool.{Bool};
+ghost use mathlib.Core.List.{List, [], _∷_};
+ghost use Prim.Native.Nat.{ℕ, _<_, _≤_};
+ghost use Rattle.buslist.specs.Meaning.{Operation};
+ghost use Rattle.registers.specs.Word.{none, one, START, STOP};
+ghost use Rattle.registers.specs.Machine.{Step, bring-up, reset, send-start, check-word};
+ghost use Rattle.registers.specs.Access.{wDR};
+ghost use Rattle.registers.specs.State.{at};
+ghost use Rattle.registers.specs.Contract.{Writes, Checks, Refines};
+ghost use Rattle.i2c.specs.Polling.{address-byte, request-write, address-write, prepare-write, request-read, address-read, prepare-read, send-byte, recv-byte, write-bytes, read-bytes, last-write, last-read, turn-write, turn-read, operation-steps};
+
+// The operation before, in a call.
+pub enum Previous {
+    Nothing,
+    Write,
+    Read,
+}
+
+// The speed words, then PE.
+pub fn init(readings: &[u32], log: &mut [u32], bus: Bus, setup: Setup) -> Outcome
+    ensures { λ r. ⌜ ((rx : List ℕ) → Refines setup (bring-up setup) (at (now (readings .entry)) (now (log .entry)) rx bus) (now (readings .entry)) (now (log .exit)) rx r) ⌝ }
+{
+    let a = write(log, bus, registers::W_CR2, setup.cr2);
+    let Outcome::Well(bus1) = a else {
+        return a;
+    };
+    let b = write(log, bus1, registers::W_TRISE, setup.trise);
+    let Outcome::Well(bus2) = b else {
+        return b;
+    };
+    let c = write(log, bus2, registers::W_CCR, setup.ccr);
+    let Outcome::Well(bus3) = c else {
+        return c;
+    };
+    modify_cr1(readings, log, bus3, Bits(registers::PE, 0), Bits(0, 0))
+}
+
+// Software reset, then bring-up.
+pub fn reset(readings: &[u32], log: &mut [u32], bus: Bus, setup: Setup) -> Outcome
+    ensures { λ r. ⌜ ((rx : List ℕ) → Refines setup (reset setup) (at (now (readings .entry)) (now (log .entry)) rx bus) (now (readings .entry)) (now (log .exit)) rx r) ⌝ }
+{
+    let a = write(log, bus, registers::W_CR1, 0x8001);
+    let Outcome::Well(bus1) = a else {
+        return a;
+    };
+    let b = write(log, bus1, registers::W_CR1, 0);
+    let Outcome::Well(bus2) = b else {
+        return b;
+    };
+    init(readings, log, bus2, setup)
+}
+
+// Clear all pending error bits, then set these bits of CR1, START among them.
+fn request_start(readings: &[u32], log: &mut [u32], bus: Bus, on: Bits) -> Outcome
+    requires { ⌜ (on .0 < 65536) × (on .1 < 65536) ⌝ }
+    ensures { λ r. ⌜ ((s : Setup) (rx : List ℕ) → Refines s (send-start on) (at (now (readings .entry)) (now (log .entry)) rx bus) (now (readings .entry)) (now (log .exit)) rx r) ⌝ }
+{
+    let a = write(log, bus, registers::W_SR1, 0);
+    let Outcome::Well(next) = a else {
+        return a;
+    };
+    modify_cr1(readings, log, next, on, Bits(0, 0))
+}
+
+// Generate START condition.
+pub fn send_start(readings: &[u32], log: &mut [u32], bus: Bus) -> Outcome
+    ensures { λ r. ⌜ ((s : Setup) (rx : List ℕ) → Refines s (send-start (one START)) (at (now (readings .entry)) (now (log .entry)) rx bus) (now (readings .entry)) (now (log .exit)) rx r) ⌝ }
+{
+    request_start(readings, log, bus, Bits(registers::START, 0))
+}
+
+// Sends the (7-bit) address. The 8th bit is set for a read.
+pub fn send_addr(log: &mut [u32], bus: Bus, addr: u32, read: bool) -> Outcome
+    requires { ⌜ addr < 128 ⌝ }
+    ensures { λ r. ⌜ ((rs rx : List ℕ) → Writes wDR (address-byte addr read) (at rs (now (log .entry)) rx bus) rs (now (log .exit)) rx r) ⌝ }
+{
+    if read {
+        return write(log, bus, registers::W_DR, 2 * addr + 1);
+    }
+    write(log, bus, registers::W_DR, 2 * addr)
+}
+
+// Generate STOP condition.
+pub fn send_stop(readings: &[u32], log: &mut [u32], bus: Bus) -> Outcome
+    ensures { λ r. ⌜ ((s : Setup) (rx : List ℕ) → Refines s (Step.modify (one STOP) none ∷ []) (at (now (readings .entry)) (now (log .entry)) rx bus) (now (readings .entry)) (now (log .exit)) rx r) ⌝ }
+{
+    modify_cr1(readings, log, bus, Bits(registers::STOP, 0), Bits(0, 0))
+}
+
+// The first error flag of an SR1 word, BERR apart.
+fn first_error(word: u32, source: Source) -> Flagged
+    ensures { λ r. ⌜ r ≡ check-word source word ⌝ }
+{
+    if has(word, registers::TIMEOUT) {
+        return Flagged::Error(BusError::Timeout);
+    }
+    if has(word, registers::PECERR) {
+        return Flagged::Error(BusError::Crc);
+    }
+    if has(word, registers::OVR) {
+        return Flagged::Error(BusError::Overrun);
+    }
+    if has(word, registers::AF) {
+        return Flagged::Error(BusError::NoAcknowledge(source));
+    }
+    if has(word, registers::ARLO) {
+        return Flagged::Error(BusError::ArbitrationLoss);
+    }
+    Flagged::Nothing
+}
+
+// The errata say that BERR may be detected wrongly, and to clear it and go on.
+fn check_and_clear_error_flags(
+    readings: &[u32],
+    log: &mut [u32],
+    bus: Bus,
+    source: Source,
+) -> Checked
+    ensures { λ r. ⌜ ((rx : List ℕ) → Checks source (at (now (readings .entry)) (now (log .entry)) rx bus) (now (readings .entry)) (now (log .exit)) rx r) ⌝ }
+{
+    let c = read(readings, log, bus, registers::SR1);
+    let Checked::Word(sr1, next) = c else {
+        return c;
+    };
+    let flagged = first_error(sr1, source);
+    if let Flagged::Error(error) = flagged {
+        return failed_of(clear_flag(log, next, error), error);
+    }
+    if !has(sr1, registers::BERR) {
+        return c;
+    }
+    word_of(clear_flag(log, next, BusError::Bus), sr1)
+}
+
+// Read CR1 until STOP is clear.
+fn until_stop_clear(readings: &[u32], log: &mut [u32], bus: Bus) -> Outcome
+    ensures { λ r. ⌜ ((s : Setup) (rx : List ℕ) → Refines s (Step.stop-clear ∷ []) (at (now (readings .entry)) (now (log .entry)) rx bus) (now (readings .entry)) (now (log .exit)) rx r) ⌝ }
+{
+    let mut bus = bus;
+    loop {
+        let c = read(readings, log, bus, registers::CR1);
+        let Checked::Word(cr1, next) = c else {
+            return outcome_of(c);
+        };
+        bus = next;
+        if !has(cr1, registers::STOP) {
+            return Outcome::Well(bus);
+        }
+    }
+}
+
+// Check until this SR1 flag is set.
+fn check_until(readings: &[u32], log: &mut [u32], bus: Bus, flag: u32, source: Source) -> Outcome
+    requires { ⌜ 0 < flag ⌝ }
+    ensures { λ r. ⌜ ((s : Setup) (rx : List ℕ) → Refines s (Step.check flag source ∷ []) (at (now (readings .entry)) (now (log .entry)) rx bus) (now (readings .entry)) (now (log .exit)) rx r) ⌝ }
+{
+    let mut bus = bus;
+    loop {
+        let c = check_and_clear_error_flags(readings, log, bus, source);
+        let Checked::Word(sr1, next) = c else {
+            return outcome_of(c);
+        };
+        bus = next;
+        if has(sr1, flag) {
+            return Outcome::Well(bus);
+        }
+    }
+}
+
+// Check and read SR2 until MSL or BUSY.
+fn check_master(readings: &[u32], log: &mut [u32], bus: Bus) -> Outcome
+    ensures { λ r. ⌜ ((s : Setup) (rx : List ℕ) → Refines s (Step.check-master ∷ []) (at (now (readings .entry)) (now (log .entry)) rx bus) (now (readings .entry)) (now (log .exit)) rx r) ⌝ }
+{
+    let mut bus = bus;
+    loop {
+        let c = check_and_clear_error_flags(readings, log, bus, Source::Unknown);
+        let Checked::Word(_, next) = c else {
+            return outcome_of(c);
+        };
+        let d = read(readings, log, next, registers::SR2);
+        let Checked::Word(sr2, last) = d else {
+            return outcome_of(d);
+        };
+        bus = last;
+        if has(sr2, registers::MSL) {
+            return Outcome::Well(bus);
+        }
+        if has(sr2, registers::BUSY) {
+            return Outcome::Well(bus);
+        }
+    }
+}
+
+// Check, and read SR1 again, until the second read has this flag.
+fn check_twice(readings: &[u32], log: &mut [u32], bus: Bus, flag: u32, source: Source) -> Outcome
+    requires { ⌜ 0 < flag ⌝ }
+    ensures { λ r. ⌜ ((s : Setup) (rx : List ℕ) → Refines s (Step.check-twice flag source ∷ []) (at (now (readings .entry)) (now (log .entry)) rx bus) (now (readings .entry)) (now (log .exit)) rx r) ⌝ }
+{
+    let mut bus = bus;
+    loop {
+        let c = check_and_clear_error_flags(readings, log, bus, source);
+        let Checked::Word(_, next) = c else {
+            return outcome_of(c);
+        };
+        let d = read(readings, log, next, registers::SR1);
+        let Checked::Word(sr1, last) = d else {
+            return outcome_of(d);
+        };
+        bus = last;
+        if has(sr1, flag) {
+            return Outcome::Well(bus);
+        }
+    }
+}
+
+// Plain SR1 reads until this flag is set.
+fn until_flag(readings: &[u32], log: &mut [u32], bus: Bus, flag: u32) -> Outcome
+    requires { ⌜ 0 < flag ⌝ }
+    ensures { λ r. ⌜ ((s : Setup) (rx : List ℕ) → Refines s (Step.flag flag ∷ []) (at (now (readings .entry)) (now (log .entry)) rx bus) (now (readings .entry)) (now (log .exit)) rx r) ⌝ }
+{
+    let mut bus = bus;
+    loop {
+        let c = read(readings, log, bus, registers::SR1);
+        let Checked::Word(sr1, next) = c else {
+            return outcome_of(c);
+        };
+        bus = next;
+        if has(sr1, flag) {
+            return Outcome::Well(bus);
+        }
+    }
+}
+
+// SR2 reads alone until MSL or BUSY.
+fn until_master(readings: &[u32], log: &mut [u32], bus: Bus) -> Outcome
+    ensures { λ r. ⌜ ((s : Setup) (rx : List ℕ) → Refines s (Step.master ∷ []) (at (now (readings .entry)) (now (log .entry)) rx bus) (now (readings .entry)) (now (log .exit)) rx r) ⌝ }
+{
+    let mut bus = bus;
+    loop {
+        let c = read(readings, log, bus, registers::SR2);
+        let Checked::Word(sr2, next) = c else {
+            return outcome_of(c);
+        };
+        bus = next;
+        if has(sr2, registers::MSL) {
+            return Outcome::Well(bus);
+        }
+        if has(sr2, registers::BUSY) {
+            return Outcome::Well(bus);
+        }
+    }
+}
+
+// Sends START and waits until we are master.
+fn request_write(readings: &[u32], log: &mut [u32], bus: Bus) -> Outcome
+    ensures { λ r. ⌜ ((s : Setup) (rx : List ℕ) → Refines s request-write (at (now (readings .entry)) (now (log .entry)) rx bus) (now (readings .entry)) (now (log .exit)) rx r) ⌝ }
+{
+    let a = until_stop_clear(readings, log, bus);
+    let Outcome::Well(bus1) = a else {
+        return a;
+    };
+    let b = send_start(readings, log, bus1);
+    let Outcome::Well(bus2) = b else {
+        return b;
+    };
+    let c = check_until(readings, log, bus2, registers::SB, Source::Unknown);
+    let Outcome::Well(bus3) = c else {
+        return c;
+    };
+    check_master(readings, log, bus3)
+}
+
+// Sends the address for writing and waits for its acknowledge.
+fn address_write(readings: &[u32], log: &mut [u32], bus: Bus, addr: u32) -> Outcome
+    requires { ⌜ addr < 128 ⌝ }
+    ensures { λ r. ⌜ ((s : Setup) (rx : List ℕ) → Refines s (address-write addr) (at (now (readings .entry)) (now (log .entry)) rx bus) (now (readings .entry)) (now (log .exit)) rx r) ⌝ }
+{
+    let a = send_addr(log, bus, addr, false);
+    let Outcome::Well(bus1) = a else {
+        return a;
+    };
+    let b = check_until(readings, log, bus1, registers::ADDR, Source::Address);
+    let Outcome::Well(bus2) = b else {
+        return b;
+    };
+    get(readings, log, bus2, registers::SR2)
+}
+
+// Sends START and address for writing.
+fn prepare_write(readings: &[u32], log: &mut [u32], bus: Bus, addr: u32) -> Outcome
+    requires { ⌜ addr < 128 ⌝ }
+    ensures { λ r. ⌜ ((s : Setup) (rx : List ℕ) → Refines s (prepare-write addr) (at (now (readings .entry)) (now (log .entry)) rx bus) (now (readings .entry)) (now (log .exit)) rx r) ⌝ }
+{
+    let a = request_write(readings, log, bus);
+    let Outcome::Well(next) = a else {
+        return a;
+    };
+    address_write(readings, log, next, addr)
+}
+
+// Sends START with ACK set, and waits until we are master.
+fn request_read(readings: &[u32], log: &mut [u32], bus: Bus) -> Outcome
+    ensures { λ r. ⌜ ((s : Setup) (rx : List ℕ) → Refines s request-read (at (now (readings .entry)) (now (log .entry)) rx bus) (now (readings .entry)) (now (log .exit)) rx r) ⌝ }
+{
+    let a = until_stop_clear(readings, log, bus);
+    let Outcome::Well(bus1) = a else {
+        return a;
+    };
+    let b = request_start(readings, log, bus1, Bits(registers::START, registers::ACK));
+    let Outcome::Well(bus2) = b else {
+        return b;
+    };
+    let c = until_flag(readings, log, bus2, registers::SB);
+    let Outcome::Well(bus3) = c else {
+        return c;
+    };
+    until_master(readings, log, bus3)
+}
+
+// Sends the address for reading and waits for its acknowledge.
+fn address_read(readings: &[u32], log: &mut [u32], bus: Bus, addr: u32) -> Outcome
+    requires { ⌜ addr < 128 ⌝ }
+    ensures { λ r. ⌜ ((s : Setup) (rx : List ℕ) → Refines s (address-read addr) (at (now (readings .entry)) (now (log .entry)) rx bus) (now (readings .entry)) (now (log .exit)) rx r) ⌝ }
+{
+    let a = send_addr(log, bus, addr, true);
+    let Outcome::Well(bus1) = a else {
+        return a;
+    };
+    let b = check_twice(readings, log, bus1, registers::ADDR, Source::Address);
+    let Outcome::Well(bus2) = b else {
+        return b;
+    };
+    get(readings, log, bus2, registers::SR2)
+}
+
+// Sends START and address for reading.
+fn prepare_read(readings: &[u32], log: &mut [u32], bus: Bus, addr: u32) -> Outcome
+    requires { ⌜ addr < 128 ⌝ }
+    ensures { λ r. ⌜ ((s : Setup) (rx : List ℕ) → Refines s (prepare-read addr) (at (now (readings .entry)) (now (log .entry)) rx bus) (now (readings .entry)) (now (log .exit)) rx r) ⌝ }
+{
+    let a = request_read(readings, log, bus);
+    let Outcome::Well(next) = a else {
+        return a;
+    };
+    address_read(readings, log, next, addr)
+}
+
+fn write_bytes(readings: &[u32], log: &mut [u32], bus: Bus, bytes: &[u8]) -> Outcome
+    ensures { λ r. ⌜ ((s : Setup) (rx : List ℕ) → Refines s (write-bytes (now (bytes .entry))) (at (now (readings .entry)) (now (log .entry)) rx bus) (now (readings .entry)) (now (log .exit)) rx r) ⌝ }
+{
+    let mut bus = bus;
+    let mut i: usize = 0;
+    while i < bytes.len() {
+        let o = send_byte(readings, log, bus, bytes[i] as u32);
+        let Outcome::Well(next) = o else {
+            return o;
+        };
+        bus = next;
+        i += 1;
+    }
+    Outcome::Well(bus)
+}
+
+fn send_byte(readings: &[u32], log: &mut [u32], bus: Bus, byte: u32) -> Outcome
+    ensures { λ r. ⌜ ((s : Setup) (rx : List ℕ) → Refines s (send-byte byte) (at (now (readings .entry)) (now (log .entry)) rx bus) (now (readings .entry)) (now (log .exit)) rx r) ⌝ }
+{
+    let a = check_until(readings, log, bus, registers::TXE, Source::Address);
+    let Outcome::Well(bus1) = a else {
+        return a;
+    };
+    let b = write(log, bus1, registers::W_DR, byte);
+    let Outcome::Well(bus2) = b else {
+        return b;
+    };
+    check_until(readings, log, bus2, registers::BTF, Source::Data)
+}
+
+fn recv_byte(readings: &[u32], log: &mut [u32], rx: &mut [u8], bus: Bus) -> Outcome
+    requires { ⌜ bus .got ≤ bus .used ⌝ }
+    ensures { λ r. ⌜ ((s : Setup) → Refines s recv-byte (at (now (readings .entry)) (now (log .entry)) (now (rx .entry)) bus) (now (readings .entry)) (now (log .exit)) (now (rx .exit)) r) ⌝ }
+{
+    let a = check_twice(readings, log, bus, registers::RXNE, Source::Data);
+    let Outcome::Well(next) = a else {
+        return a;
+    };
+    read_data(readings, log, rx, next)
+}
+
+fn read_bytes(readings: &[u32], log: &mut [u32], rx: &mut [u8], bus: Bus, count: usize) -> Outcome
+    requires { ⌜ bus .got ≤ bus .used ⌝ }
+    ensures { λ r. ⌜ ((s : Setup) → Refines s (read-bytes count) (at (now (readings .entry)) (now (log .entry)) (now (rx .entry)) bus) (now (readings .entry)) (now (log .exit)) (now (rx .exit)) r) ⌝ }
+{
+    let mut bus = bus;
+    let mut i: usize = 0;
+    while i < count {
+        let o = recv_byte(readings, log, rx, bus);
+        let Outcome::Well(next) = o else {
+            return o;
+        };
+        bus = next;
+        i += 1;
+    }
+    Outcome::Well(bus)
+}
+
+// Reads like normal but doesn't generate START and doesn't send the address.
+fn read_wo_prepare(
+    readings: &[u32],
+    log: &mut [u32],
+    rx: &mut [u8],
+    bus: Bus,
+    count: usize,
+) -> Outcome
+    requires { ⌜ bus .got ≤ bus .used ⌝ }
+    ensures { λ r. ⌜ ((s : Setup) → Refines s (last-read count) (at (now (readings .entry)) (now (log .entry)) (now (rx .entry)) bus) (now (readings .entry)) (now (log .exit)) (now (rx .exit)) r) ⌝ }
+{
+    if count == 0 {
+        return Outcome::Failed(BusError::Overrun, bus);
+    }
+    let a = read_bytes(readings, log, rx, bus, count - 1);
+    let Outcome::Well(bus1) = a else {
+        return a;
+    };
+    // NACK, then STOP after the next byte.
+    let b = modify_cr1(
+        readings,
+        log,
+        bus1,
+        Bits(registers::STOP, 0),
+        Bits(registers::ACK, 0),
+    );
+    let Outcome::Well(bus2) = b else {
+        return b;
+    };
+    let c = recv_byte(readings, log, rx, bus2);
+    let Outcome::Well(bus3) = c else {
+        return c;
+    };
+    until_stop_clear(readings, log, bus3)
+}
+
+// Writes like normal but doesn't generate START and doesn't send the address.
+fn write_wo_prepare(readings: &[u32], log: &mut [u32], bus: Bus, bytes: &[u8]) -> Outcome
+    ensures { λ r. ⌜ ((s : Setup) (rx : List ℕ) → Refines s (last-write (now (bytes .entry))) (at (now (readings .entry)) (now (log .entry)) rx bus) (now (readings .entry)) (now (log .exit)) rx r) ⌝ }
+{
+    let a = write_bytes(readings, log, bus, bytes);
+    let Outcome::Well(bus1) = a else {
+        return a;
+    };
+    let b = send_stop(readings, log, bus1);
+    let Outcome::Well(bus2) = b else {
+        return b;
+    };
+    until_stop_clear(readings, log, bus2)
+}
+
+// Prepared for a write, where the operation before was none.
+fn turn_write(readings: &[u32], log: &mut [u32], bus: Bus, addr: u32, previous: Previous) -> Outcome
+    requires { ⌜ addr < 128 ⌝ }
+    ensures { λ r. ⌜ ((s : Setup) (rx : List ℕ) → Refines s (turn-write addr previous) (at (now (readings .entry)) (now (log .entry)) rx bus) (now (readings .entry)) (now (log .exit)) rx r) ⌝ }
+{
+    match previous {
+        Previous::Write => Outcome::Well(bus),
+        _ => prepare_write(readings, log, bus, addr),
+    }
+}
+
+// Prepared for a read, where the operation before was none.
+fn turn_read(readings: &[u32], log: &mut [u32], bus: Bus, addr: u32, previous: Previous) -> Outcome
+    requires { ⌜ addr < 128 ⌝ }
+    ensures { λ r. ⌜ ((s : Setup) (rx : List ℕ) → Refines s (turn-read addr previous) (at (now (readings .entry)) (now (log .entry)) rx bus) (now (readings .entry)) (now (log .exit)) rx r) ⌝ }
+{
+    match previous {
+        Previous::Read => Outcome::Well(bus),
+        _ => prepare_read(readings, log, bus, addr),
+    }
+}
+
+// A write in a call, after this operation; the last one ends in STOP.
+pub fn write_operation(
+    readings: &[u32],
+    log: &mut [u32],
+    bus: Bus,
+    addr: u32,
+    previous: Previous,
+    last: bool,
+    bytes: &[u8],
+) -> Outcome
+    requires { ⌜ addr < 128 ⌝ }
+    ensures { λ r. ⌜ ((s : Setup) (rx : List ℕ) (early : Bool) → Refines s (operation-steps early addr previous last (Operation.write (now (bytes .entry)))) (at (now (readings .entry)) (now (log .entry)) rx bus) (now (readings .entry)) (now (log .exit)) rx r) ⌝ }
+{
+    let a = turn_write(readings, log, bus, addr, previous);
+    let Outcome::Well(next) = a else {
+        return a;
+    };
+    if last {
+        return write_wo_prepare(readings, log, next, bytes);
+    }
+    write_bytes(readings, log, next, bytes)
+}
+
+// A read in a call, after this operation. Where `early` says so, an empty one is an Overrun before it is prepared.
+pub fn read_operation(
+    readings: &[u32],
+    log: &mut [u32],
+    rx: &mut [u8],
+    bus: Bus,
+    addr: u32,
+    previous: Previous,
+    last: bool,
+    early: bool,
+    count: usize,
+) -> Outcome
+    requires { ⌜ (addr < 128) × (bus .got ≤ bus .used) ⌝ }
+    ensures { λ r. ⌜ ((s : Setup) → Refines s (operation-steps early addr previous last (Operation.read count)) (at (now (readings .entry)) (now (log .entry)) (now (rx .entry)) bus) (now (readings .entry)) (now (log .exit)) (now (rx .exit)) r) ⌝ }
+{
+    if early & (count == 0) {
+        return Outcome::Failed(BusError::Overrun, bus);
+    }
+    let a = turn_read(readings, log, bus, addr, previous);
+    let Outcome::Well(next) = a else {
+        return a;
+    };
+    if last {
+        return read_wo_prepare(readings, log, rx, next, count);
+    }
+    read_bytes(readings, log, rx, next, count)
+}
