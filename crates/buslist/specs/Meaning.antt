@@ -19,9 +19,12 @@ pub record Call : Type 0 where
   pub address : ℕ
   pub operations : List Operation
 
--- a write has its length of bytes from data offset + its own offset on
+-- the bytes of a write: its length of them, from data offset + its own offset on
+abbrev pub bytes-of : List ℕ → OperationEntry → List ℕ
+bytes-of l o = take (o .length) (drop (data-offset l + o .offset) l)
+
 unfoldable pub operation-of : List ℕ → OperationEntry → Operation
-operation-of l o = cond (is-write o) (write (take (o .length) (drop (data-offset l + o .offset) l))) (read (o .length))
+operation-of l o = cond (is-write o) (write (bytes-of l o)) (read (o .length))
 
 abbrev pub call-of : List ℕ → CallEntry → Call
 call-of l c = record { kind = c .kind; address = c .address; operations = map (operation-of l) (operations-of l c) }

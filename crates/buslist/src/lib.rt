@@ -4,9 +4,11 @@ use units::Micros;
 use units::Settings;
 ghost use mathlib.Core.Path.{_≡_};
 ghost use Rattle.units.specs.Speed.{frequency-out};
+ghost use Prim.Native.Nat.{min};
 ghost use Rattle.buslist.specs.Bytes.{byte, half, word};
 ghost use Rattle.buslist.specs.Table.{call-count, operation-count, settings-of, call-at, operation-at, operations-of, calls, operations, data-bytes};
 ghost use Rattle.buslist.specs.Form.{header-right, written, operation-right, operations-right, kind-right, call-right, calls-right, of-the-form};
+ghost use Rattle.buslist.specs.Meaning.{bytes-of};
 ghost use Rattle.buslist.specs.Refusal.{any, longest-operation, too-long, over-limit, too-many-cycles, timeout-out, address-out, empty-blocking, received, all-received, refusal};
 
 // A call as its 8 bytes have it.
@@ -102,6 +104,23 @@ pub fn operation_at(list: &[u8], j: u32) -> OperationEntry
         length: half_at(list, at + 2),
         offset: word_at(list, at + 4),
     }
+}
+
+// The lesser of the two.
+fn least(a: usize, b: usize) -> usize
+    ensures { λ r. ⌜ r ≡ min a b ⌝ }
+{
+    if a < b { a } else { b }
+}
+
+// The bytes of a write; those past the list's end are not there.
+pub fn bytes_of(list: &[u8], o: OperationEntry) -> &[u8]
+    ensures { λ r. ⌜ now r ≡ bytes-of (now (list .entry)) o ⌝ }
+{
+    let at = word_at(list, 20) as usize + o.offset as usize;
+    let start = least(at, list.len());
+    let end = least(at + o.length as usize, list.len());
+    &list[start..end]
 }
 
 fn header_right(list: &[u8]) -> bool

@@ -1,2 +1,5 @@
 pub mod Speed
+pub mod Calls
+pub mod Run
+pub mod Compare
 pub mod Examples

@@ -3,6 +3,15 @@ use units::Hertz;
 ghost use mathlib.Core.Path.{_≡_};
 ghost use Rattle.engine.specs.Speed.{speed-out, speed-cr2, speed-trise, speed-ccr};
 
+// How a run ended: its answer, calls ended well, readings used, accesses made, bytes received.
+pub struct Counts {
+    pub answer: u32,
+    pub calls: usize,
+    pub used: usize,
+    pub made: usize,
+    pub got: usize,
+}
+
 // What stands for a speed word where the settings have none.
 const NO_WORD: u32 = 4_294_967_295;
 

@@ -22,9 +22,9 @@ use Rattle.registers.proofs.Checked as C
 use Rattle.registers.proofs.Outcome as O
 use Rattle.registers.specs.Word.{has, BERR}
 use Rattle.registers.specs.Access.{SR1, wSR1, CYC, DR, is-read, is-data, cut, clear-word, entries-in}
-use Rattle.registers.specs.Machine.{Step, Access, access, next, check-word, after-check}
+use Rattle.registers.specs.Machine.{Step, Handler, handle, Access, access, next, check-word, after-check}
 use Rattle.registers.specs.State.{State, After, Took, at, going, word, then, taking, entry, recorded, received, room, left, resume, read-one, read, write-one, write, check, check-flags, took-then, took-word}
-use Rattle.registers.specs.Contract.{outcome, checked, outcome-of, Reads, Writes, Checks, Refines, Reaches}
+use Rattle.registers.specs.Contract.{outcome, checked, outcome-of, handled, Reads, Writes, Checks, Refines, Reaches, Waits}
 use Rattle.registers.proofs.Laws.{read-law, write-law, fail-law, done-law, received-other, resume-fewer}
 
 -- the tags of an answer that is no word, and of an outcome that is not well
@@ -198,7 +198,45 @@ no-setup =
       «data_limit» = record { 0 = 0 };
     }
 
+-- a function that does steps keeps the bytes received at most the readings used
+pub keeps-fewer : {s : Setup} {q : List Step} {rs lg rx : List ℕ} {b : Bus} {rs′ lg′ rx′ : List ℕ} {o : Outcome} {b′ : Bus}
+    → Refines s q (at rs lg rx b) rs′ lg′ rx′ o → o ≡ Outcome.Well b′ → b .got ≤ b .used → b′ .got ≤ b′ .used
+keeps-fewer {s} {q} {rs} {lg} {rx} {b} {rs′} {lg′} {rx′} {o} {b′} x e h =
+    resume-fewer s q (at rs lg rx b) (at rs′ lg′ rx′ b′) (rw append-nil at (x .is []) ∙ rw (e, done-law)) h
+
 pub refines-fewer : {q : List Step} {rs lg rx : List ℕ} {b : Bus} {rs′ lg′ rx′ : List ℕ} {o : Outcome} {b′ : Bus}
     → ((s : Setup) → Refines s q (at rs lg rx b) rs′ lg′ rx′ o) → o ≡ Outcome.Well b′ → b .got ≤ b .used → b′ .got ≤ b′ .used
-refines-fewer {q} {rs} {lg} {rx} {b} {rs′} {lg′} {rx′} {o} {b′} x e h =
-    resume-fewer no-setup q (at rs lg rx b) (at rs′ lg′ rx′ b′) (rw append-nil at (x no-setup .is []) ∙ rw (e, done-law)) h
+refines-fewer x e h = keeps-fewer (x no-setup) e h
+
+-- a timed wait
+
+-- its error is handled by ending the call
+pub waits-end : {s : Setup} {q : List Step} {st : State} {rs lg rx : List ℕ} {o : Outcome} → Waits s Handler.ends q st rs lg rx o → Refines s q st rs lg rx o
+unfolding handle
+waits-end {s} {q} {st} {rs} {lg} {rx} {o} x = record { is = λ p. x .is p ∙ go p o }
+  where
+    go : (p : List Step) (o : Outcome) → handled s Handler.ends rs lg rx o p ≡ then (outcome rs lg rx o) (resume s p)
+    go p (Outcome.Well b) = refl
+    go p (Outcome.Failed e b) = fail-law s e p (at rs lg rx b)
+    go p (Outcome.CutShort c b) = refl
+
+-- it went well: on with what is left
+pub wait-step : {s : Setup} {h : Handler} {q₀ : List Step} {st₁ : State} {rs lg rx : List ℕ} {o : Outcome} → Waits s h q₀ st₁ rs lg rx o
+    → (q₁ : List Step) {q : List Step} {st : State} → Reaches s q st (q₀ ++ q₁) st₁ → {b : Bus} → o ≡ Outcome.Well b → Reaches s q st q₁ (at rs lg rx b)
+wait-step x q₁ g k = record { is = λ p. g .is p ∙ rw append-assoc (x .is (q₁ ++ p) ∙ rw k) }
+
+-- it failed: to the handler
+pub wait-fails : {s : Setup} {h : Handler} {q₀ : List Step} {st₁ : State} {rs lg rx : List ℕ} {o : Outcome} → Waits s h q₀ st₁ rs lg rx o
+    → (q₁ : List Step) {q : List Step} {st : State} → Reaches s q st (q₀ ++ q₁) st₁ → {e : BusError} {b : Bus} → o ≡ Outcome.Failed e b
+    → Reaches s q st (handle s h e ++ q₁) (at rs lg rx b)
+wait-fails {s} {h} {q₀} x q₁ g {e} k = record { is = λ p. g .is p ∙ rw (append-assoc q₀ q₁ p, append-assoc (handle s h e) q₁ p) (x .is (q₁ ++ p) ∙ rw k) }
+
+-- it is the last thing done, and did not fail
+pub wait-last : {s : Setup} {h : Handler} {q₀ : List Step} {st₁ : State} {rs lg rx : List ℕ} {o : Outcome} → Waits s h q₀ st₁ rs lg rx o
+    → {q : List Step} {st : State} → Reaches s q st q₀ st₁ → OneOf (0 ∷ 2 ∷ []) (tagOf O.the-type o) → Refines s q st rs lg rx o
+wait-last {s} {h} {q₀} {st₁} {rs} {lg} {rx} {o} x g k = record { is = λ p. g .is p ∙ x .is p ∙ go p o k }
+  where
+    go : (p : List Step) (o : Outcome) → OneOf (0 ∷ 2 ∷ []) (tagOf O.the-type o) → handled s h rs lg rx o p ≡ then (outcome rs lg rx o) (resume s p)
+    go p (Outcome.Well b) k = refl
+    go p (Outcome.Failed e b) k = ⊎-elim (λ (e : _≡_ {A = ℕ} 1 0). absurd (omega arith)) (λ (e : _≡_ {A = ℕ} 1 2). absurd (omega arith)) k
+    go p (Outcome.CutShort c b) k = refl

@@ -1,7 +1,7 @@
 -- The bus machine: what the engine does, one register access at a time.
 -- A program is a list of steps. The first step names an access; the value read decides which steps take its place.
 use Prim.Native.Nat.{ℕ, zero, suc, _+_, _-_, _%_, _^_}
-use mathlib.Core.Bool.{Bool, true, false, cond}
+use mathlib.Core.Bool.{Bool, true, false, not, cond}
 use mathlib.Core.List.{List, [], _∷_, _++_}
 use lib.ListN.{length, drop}
 use lib.Dec.{leb}
@@ -12,6 +12,7 @@ use Rattle.registers.specs.declared.Cut.{Cut}
 use Rattle.registers.specs.declared.Entry.{Entry}
 use Rattle.registers.specs.declared.Bits.{Bits}
 use Rattle.registers.specs.declared.Flagged.{Flagged}
+use Rattle.registers.specs.declared.Awaited.{Awaited}
 use Rattle.registers.specs.Word.{has, with-bits, without-bits, none, one, SB, BERR, ARLO, AF, OVR, PECERR, TIMEOUT, MSL, BUSY, PE, START, STOP}
 use Rattle.registers.specs.Access.{SR1, SR2, CR1, CYC, wCR1, wCR2, wCCR, wTRISE, wSR1, cut, clear-word, reads, Ending, well, failed, cut-short}
 
@@ -34,12 +35,9 @@ pub data Step : Type 0 where
   checked-twice : ℕ → Source → Step  --   its second read
   flag : ℕ → Step  -- plain SR1 reads until this flag is set
   master : Step  -- SR2 reads alone until MSL or BUSY
-  timed : ℕ → Source → ℕ → Handler → Step  -- timed wait for this SR1 flag, with this limit
-  poll : ℕ → Source → ℕ → Handler → ℕ → Step  --   its SR1 read, with the start
-  late : ℕ → Source → ℕ → Handler → ℕ → Step  --   its later CYC reads
-  timed-stop : ℕ → Step  -- timed wait for STOP to clear
-  poll-stop : ℕ → ℕ → Step  --   its CR1 read
-  late-stop : ℕ → ℕ → Step  --   its later CYC reads
+  timed : Awaited → ℕ → Handler → Step  -- timed wait with this limit: read CYC
+  poll : Awaited → ℕ → Handler → ℕ → Step  --   its poll, with the start
+  late : Awaited → ℕ → Handler → ℕ → Step  --   its later CYC reads
 
 -- the clear of the SR1 flag that reports this error
 abbrev pub clear : BusError → Step
@@ -85,7 +83,7 @@ poll-word n v =
 -- blocking start, with so many tries left: SR1 0, START, timed SB; with no tries, well
 unfoldable pub start : Setup → ℕ → List Step
 start s zero = []
-start s (suc n) = send-start (one START) ++ timed SB Source.Unknown (s .«start_limit» .0) (resets n) ∷ []
+start s (suc n) = send-start (one START) ++ timed (Awaited.Flag SB Source.Unknown) (s .«start_limit» .0) (resets n) ∷ []
 
 -- after a reset: the last answer holds
 unfoldable pub start-again : Setup → ℕ → BusError → List Step
@@ -111,6 +109,26 @@ handle s (resets n) e = reset s ++ start-again s n e
 unfoldable pub since : ℕ → ℕ → ℕ
 since from now = (now + (2 ^ 32 - from)) % 2 ^ 32
 
+-- a poll reads SR1 for a flag; a wait for STOP polls CR1 alone
+abbrev pub polled-register : Awaited → ℕ
+polled-register (Awaited.Flag f n) = SR1
+polled-register Awaited.Stop = CR1
+
+-- the bit that it tests
+abbrev pub polled-bit : Awaited → ℕ
+polled-bit (Awaited.Flag f n) = f
+polled-bit Awaited.Stop = STOP
+
+-- the error that a poll finds; a wait for STOP meets no bus error
+unfoldable pub poll-error : Awaited → ℕ → Flagged
+poll-error (Awaited.Flag f n) v = poll-word n v
+poll-error Awaited.Stop v = Flagged.Nothing
+
+-- ready if the flag is set, or if STOP is clear
+unfoldable pub poll-ready : Awaited → ℕ → Bool
+poll-ready (Awaited.Flag f n) v = has f v
+poll-ready Awaited.Stop v = not (has STOP v)
+
 -- after a poll: it clears, and the handler ends or retries; else ready if the flag is set, and the next CYC read if not
 unfoldable pub after-poll : Setup → Handler → Flagged → Bool → Step → List Step
 after-poll s h (Flagged.Error e) ready later = clear e ∷ handle s h e
@@ -135,12 +153,9 @@ access (check-twice f n) = read SR1
 access (checked-twice f n) = read SR1
 access (flag f) = read SR1
 access master = read SR2
-access (timed f n l h) = read CYC
-access (poll f n l h t) = read SR1
-access (late f n l h t) = read CYC
-access (timed-stop l) = read CYC
-access (poll-stop l t) = read CR1
-access (late-stop l t) = read CYC
+access (timed w l h) = read CYC
+access (poll w l h t) = read (polled-register w)
+access (late w l h t) = read CYC
 
 -- what takes the step's place once its access is made, with the value read
 unfoldable pub next : Setup → Step → ℕ → List Step
@@ -156,12 +171,9 @@ next s (check-twice f n) v = after-check (check-word n v) (has BERR v) (checked-
 next s (checked-twice f n) v = cond (has f v) [] (check-twice f n ∷ [])
 next s (flag f) v = cond (has f v) [] (flag f ∷ [])
 next s master v = cond (has MSL v) [] (cond (has BUSY v) [] (master ∷ []))
-next s (timed f n l h) v = poll f n l h v ∷ []
-next s (poll f n l h t) v = after-poll s h (poll-word n v) (has f v) (late f n l h t)
-next s (late f n l h t) v = cond (leb l (since t v)) (handle s h BusError.Timeout) (poll f n l h t ∷ [])
-next s (timed-stop l) v = poll-stop l v ∷ []
-next s (poll-stop l t) v = cond (has STOP v) (late-stop l t ∷ []) []
-next s (late-stop l t) v = cond (leb l (since t v)) (fail BusError.Timeout ∷ []) (poll-stop l t ∷ [])
+next s (timed w l h) v = poll w l h v ∷ []
+next s (poll w l h t) v = after-poll s h (poll-error w v) (poll-ready w v) (late w l h t)
+next s (late w l h t) v = cond (leb l (since t v)) (handle s h BusError.Timeout) (poll w l h t ∷ [])
 
 -- what steps come to: the log of their accesses, and how they end
 pub record Ran : Type 0 where

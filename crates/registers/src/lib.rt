@@ -126,6 +126,12 @@ pub enum Flagged {
     Nothing,
 }
 
+// What a timed wait waits for: an SR1 flag, where a missing acknowledge has this source; or STOP clear in CR1.
+pub enum Awaited {
+    Flag(u32, Source),
+    Stop,
+}
+
 // Up to two bits of a word, by weight; 0 is no bit.
 pub struct Bits(pub u32, pub u32);
 

@@ -1,0 +1,55 @@
+-- What a run of a list comes to: list bytes, readings and buffer lengths to answer, counts, record and received bytes.
+use Prim.Native.Nat.{ℕ}
+use mathlib.Core.List.{List, [], _++_, map}
+use mathlib.Core.Bool.{Bool, true, false}
+use lib.ListN.{length, drop}
+use lib.Dec.{eqb}
+use Rattle.units.specs.declared.Setup.{Setup}
+use Rattle.units.specs.Setup.{setup-of}
+use Rattle.buslist.specs.Table.{settings-of}
+use Rattle.buslist.specs.Refusal.{refusal}
+use Rattle.buslist.specs.Meaning.{calls-of}
+use Rattle.registers.specs.declared.Entry.{Entry}
+use Rattle.registers.specs.Access.{entries-in, record-of, reads, received-of, number}
+use Rattle.registers.specs.Machine.{Run, whole-run}
+use Rattle.engine.specs.declared.Counts.{Counts}
+use Rattle.engine.specs.Calls.{steps-of}
+
+-- a run: its answer, calls ended well before it stopped, and its log of accesses
+pub record Result : Type 0 where
+  pub answer : ℕ
+  pub calls : ℕ
+  pub log : List Entry
+
+-- an accepted list: the bring-up, then the calls in order, with this many record words
+unfoldable pub accepted-run : List ℕ → List ℕ → ℕ → Run
+accepted-run list readings record-words =
+    let s : Setup = setup-of (settings-of list) in
+    whole-run s (map (steps-of s) (calls-of list)) (entries-in record-words) readings
+
+-- a refused list makes no access
+unfoldable pub result : ℕ → Run → Result
+result refusal r = go (eqb refusal 0)
+  where
+    go : Bool → Result
+    go true = record { answer = number (r .ending); calls = r .calls; log = r .log }
+    go false = record { answer = refusal; calls = 0; log = [] }
+
+-- the run of a list with a received buffer of so many bytes and a record of so many words
+unfoldable pub run : List ℕ → List ℕ → ℕ → ℕ → Result
+run list readings rx-bytes record-words = result (refusal list rx-bytes) (accepted-run list readings record-words)
+
+-- the answer and the four counts: calls ended well; readings used, the read accesses; accesses made; bytes received, the DR reads
+unfoldable pub counts-of : Result → Counts
+counts-of r =
+    record {
+      answer = r .answer;
+      calls = r .calls;
+      used = reads (r .log);
+      made = length (r .log);
+      got = length (received-of (r .log));
+    }
+
+-- a buffer with these words from its start, and the rest as it was
+unfoldable pub filled : List ℕ → List ℕ → List ℕ
+filled buffer words = words ++ drop (length words) buffer
