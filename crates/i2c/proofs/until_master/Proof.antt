@@ -1,72 +1,39 @@
+use native.Mathlib.Omega.{arith}
+use mathlib.Core.Path.{refl, sym, _∙_}
+use mathlib.Core.List.{[]}
+use Rattle.registers.specs.Machine.{Step}
+use Rattle.registers.proofs.Steps.{here, read-step, read-stops, ends-well, read-fell}
+use Rattle.i2c.proofs.Waits.{Waiting, fitting, next-master}
+use borrow.Author.Needs.{needs}
 use Rattle.i2c.proofs.until_master.Statement.{statement}
 use Rattle.i2c.proofs.until_master.Tie as tie
-use Rattle.i2c.proofs.until_master.Reads as reads
-use Rattle.i2c.proofs.until_master.Lts as lts
-use Rattle.registers.proofs.has.Reads as has-reads
-use Rattle.registers.proofs.outcome_of.Reads as outcome-of-reads
-use Rattle.registers.proofs.read.Reads as read-reads
 
 abbrev Inv-loop : tie.InvT-loop
-Inv-loop readings log₀ bus₀ log bus = ?
+Inv-loop readings log₀ bus₀ log bus = Waiting Step.master readings log₀ bus₀ log bus
 
 abbrev μ-loop : tie.MeasureT-loop
-μ-loop readings log₀ bus₀ log bus = ?
+μ-loop readings log₀ bus₀ log bus = fitting log bus
 
--- src/lib.rt:239:5
 loop-holds : tie.Need-loop-holds Inv-loop μ-loop
-loop-holds c = ?
+loop-holds c = ((λ s rx. here), refl)
 
--- src/lib.rt:240:13
-read-requires : tie.Need-read-requires Inv-loop μ-loop
-read-requires c κs = ?
-
--- src/lib.rt:241:27
-enum-known-c : tie.Need-enum-known-c Inv-loop μ-loop
-enum-known-c c = ?
-
--- src/lib.rt:242:13
-outcome-of-requires : tie.Need-outcome-of-requires Inv-loop μ-loop
-outcome-of-requires c κs = ?
-
--- src/lib.rt:242:13
-same-length : tie.Need-same-length Inv-loop μ-loop
-same-length c = ?
-
--- src/lib.rt:242:13
 returns : tie.Need-returns Inv-loop μ-loop
-returns c = ?
+returns c s rx = rw (c .outcome-of .ensures) (read-stops (c .before .before .before .before .before .before .loop .inv .0 s rx) (c .before .before .before .before .read .ensures rx) refl refl (c .before .match .keys2))
 
--- src/lib.rt:245:12
-has-requires : tie.Need-has-requires Inv-loop μ-loop
-has-requires c κs = ?
-
--- src/lib.rt:246:13
-same-length-2 : tie.Need-same-length-2 Inv-loop μ-loop
-same-length-2 c = ?
-
--- src/lib.rt:246:13
 returns-2 : tie.Need-returns-2 Inv-loop μ-loop
-returns-2 c = ?
+returns-2 c s rx = ends-well (read-step (c .before .before .before .before .before .before .before .before .before .loop .inv .0 s rx) (c .before .before .before .before .before .before .before .read .ensures rx) refl refl refl (c .before .before .before .c .given .1) (next-master s _ (sym (c .before .has .ensures) ∙ c .if1 .taken) refl))
 
--- src/lib.rt:248:12
-has-requires-2 : tie.Need-has-requires-2 Inv-loop μ-loop
-has-requires-2 c κs = ?
-
--- src/lib.rt:249:13
-same-length-3 : tie.Need-same-length-3 Inv-loop μ-loop
-same-length-3 c = ?
-
--- src/lib.rt:249:13
 returns-3 : tie.Need-returns-3 Inv-loop μ-loop
-returns-3 c = ?
+returns-3 c s rx = ends-well (read-step (c .before .before .before .before .before .before .before .before .before .before .before .loop .inv .0 s rx) (c .before .before .before .before .before .before .before .before .before .read .ensures rx) refl refl refl (c .before .before .before .before .before .c .given .1) (next-master s _ (sym (c .before .before .before .has .ensures) ∙ c .before .before .if1 .left) (sym (c .before .has2 .ensures) ∙ c .if2 .taken)))
 
--- src/lib.rt:239:5
 loop-less : tie.Need-loop-less Inv-loop μ-loop
-loop-less c = ?
+loop-less c = let g = read-fell (c .before .before .before .before .before .before .before .before .before .read .ensures []) (c .before .before .before .before .before .c .given .1) in omega (arith, c .before .before .before .before .before .before .before .before .before .read .kept)
 
--- src/lib.rt:239:5
 loop-again : tie.Need-loop-again Inv-loop μ-loop
-loop-again c = ?
+loop-again c = (
+  (λ s rx. read-step (c .before .before .before .before .before .before .before .before .before .before .before .loop .inv .0 s rx) (c .before .before .before .before .before .before .before .before .before .read .ensures rx) refl refl refl (c .before .before .before .before .before .c .given .1) (next-master s _ (sym (c .before .before .before .has .ensures) ∙ c .before .before .if1 .left) (sym (c .before .has2 .ensures) ∙ c .if2 .left))),
+  omega (arith, c .before .before .before .before .before .before .before .before .before .read .kept),
+)
 
 pub until-master-spec : {M : Type 1} → statement M
 until-master-spec =
@@ -75,16 +42,16 @@ until-master-spec =
     Inv-loop
     μ-loop
     loop-holds
-    read-requires
-    enum-known-c
-    outcome-of-requires
-    same-length
+    (λ c κs. search needs)
+    (λ c. search needs)
+    (λ c κs. search needs)
+    (λ c. search needs)
     returns
-    has-requires
-    same-length-2
+    (λ c κs. search needs)
+    (λ c. search needs)
     returns-2
-    has-requires-2
-    same-length-3
+    (λ c κs. search needs)
+    (λ c. search needs)
     returns-3
     loop-less
     loop-again)
