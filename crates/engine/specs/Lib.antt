@@ -1,5 +1,6 @@
 pub mod Speed
 pub mod Calls
+pub mod Whole
 pub mod Run
 pub mod Compare
 pub mod Examples

@@ -1,5 +1,6 @@
 -- What a run of a list comes to: list bytes, readings and buffer lengths to answer, counts, record and received bytes.
 use Prim.Native.Nat.{ℕ}
+use mathlib.Core.Path.{_≡_}
 use mathlib.Core.List.{List, [], _++_, map}
 use mathlib.Core.Bool.{Bool, true, false}
 use lib.ListN.{length, drop}
@@ -10,10 +11,13 @@ use Rattle.buslist.specs.Table.{settings-of}
 use Rattle.buslist.specs.Refusal.{refusal}
 use Rattle.buslist.specs.Meaning.{calls-of}
 use Rattle.registers.specs.declared.Entry.{Entry}
+use Rattle.registers.specs.declared.Outcome.{Outcome}
+use Rattle.registers.specs.Contract.{ending-of}
 use Rattle.registers.specs.Access.{entries-in, record-of, reads, received-of, number}
 use Rattle.registers.specs.Machine.{Run, whole-run}
 use Rattle.engine.specs.declared.Counts.{Counts}
 use Rattle.engine.specs.Calls.{steps-of}
+use Rattle.engine.specs.Whole.{bus-of}
 
 -- a run: its answer, calls ended well before it stopped, and its log of accesses
 pub record Result : Type 0 where
@@ -53,3 +57,20 @@ counts-of r =
 -- a buffer with these words from its start, and the rest as it was
 unfoldable pub filled : List ℕ → List ℕ → List ℕ
 filled buffer words = words ++ drop (length words) buffer
+
+-- a run's contract: the answer and the counts are the meaning's; the received buffer and the record hold its bytes and words, and past them what they held
+pub record Meant (r : Result) (rx lg rx′ lg′ : List ℕ) (c : Counts) : Type 0 where
+  pub counts : c ≡ counts-of r
+  pub received : rx′ ≡ filled rx (received-of (r .log))
+  pub recorded : lg′ ≡ filled lg (record-of (r .log))
+
+-- the answer and the counts that an outcome gives after so many calls
+abbrev pub ended-counts : Outcome → ℕ → Counts
+ended-counts o calls =
+    record {
+      answer = number (ending-of o);
+      calls = calls;
+      used = bus-of o .used;
+      made = bus-of o .made;
+      got = bus-of o .got;
+    }

@@ -1,6 +1,22 @@
-// The engine as hosts see it: every exported function stands here.
-use units::Hertz;
+// The engine as hosts see it: the run of a bus list, and every exported function.
+use buslist::{CallEntry, OperationEntry};
+use i2c::Previous;
+use registers::{Bus, Outcome};
+use units::{Hertz, Setup};
 ghost use mathlib.Core.Path.{_≡_};
+ghost use mathlib.Core.List.{List, map};
+ghost use Prim.Native.Nat.{ℕ, _<_, _≤_};
+ghost use lib.ListN.{length};
+ghost use lib.Dec.{leb};
+ghost use Rattle.buslist.specs.Refusal.{refusal};
+ghost use Rattle.buslist.specs.Meaning.{operation-of, calls-of};
+ghost use Rattle.registers.specs.State.{at};
+ghost use Rattle.registers.specs.Contract.{Refines};
+ghost use Rattle.i2c.specs.Polling.{operation-steps as polling-operation};
+ghost use Rattle.blocking.specs.Blocking.{operation-steps as blocking-operation};
+ghost use Rattle.engine.specs.Calls.{engine-of, early, steps-of, operation-steps, moved, end-steps, empty};
+ghost use Rattle.engine.specs.Whole.{Ends, bus-of};
+ghost use Rattle.engine.specs.Run.{run, Meant, ended-counts};
 ghost use Rattle.engine.specs.Speed.{speed-out, speed-cr2, speed-trise, speed-ccr};
 
 // How a run ended: its answer, calls ended well, readings used, accesses made, bytes received.
@@ -10,6 +26,12 @@ pub struct Counts {
     pub used: usize,
     pub made: usize,
     pub got: usize,
+}
+
+// How the calls of a run ended: the last outcome, and the calls ended well.
+struct Stopped {
+    outcome: Outcome,
+    calls: usize,
 }
 
 // What stands for a speed word where the settings have none.
@@ -53,4 +75,225 @@ pub extern "C" fn speed_ccr(pclk1: u32, mode: u32, frequency: u32) -> u32
         return NO_WORD;
     }
     units::ccr_word(Hertz(pclk1), units::mode_of(mode), Hertz(frequency))
+}
+
+// Whether a call is polling: kinds 0 to 3.
+fn is_polling(kind: u8) -> bool
+    ensures { λ r. ⌜ r ≡ leb kind 3 ⌝ }
+{
+    kind <= 3
+}
+
+// Whether an empty read of a call is an Overrun before it is prepared.
+fn early(kind: u8) -> bool
+    ensures { λ r. ⌜ r ≡ early kind ⌝ }
+{
+    (kind == 1) | (kind == 2)
+}
+
+// One operation of a polling call.
+fn polling_operation(
+    list: &[u8],
+    readings: &[u32],
+    rx: &mut [u8],
+    log: &mut [u32],
+    bus: Bus,
+    call: CallEntry,
+    o: OperationEntry,
+    previous: Previous,
+    last: bool,
+) -> Outcome
+    requires { ⌜ (call .address < 128) × (bus .got ≤ bus .used) ⌝ }
+    ensures { λ r. ⌜ ((s : Setup) → Refines s (polling-operation (early (call .kind)) (call .address) previous last (operation-of (now (list .entry)) o)) (at (now (readings .entry)) (now (log .entry)) (now (rx .entry)) bus) (now (readings .entry)) (now (log .exit)) (now (rx .exit)) r) ⌝ }
+{
+    let addr = call.address as u32;
+    if o.direction == 0 {
+        return i2c::write_operation(readings, log, bus, addr, previous, last, buslist::bytes_of(list, o));
+    }
+    i2c::read_operation(readings, log, rx, bus, addr, previous, last, early(call.kind), o.length as usize)
+}
+
+// One operation of a blocking call.
+fn blocking_operation(
+    list: &[u8],
+    readings: &[u32],
+    rx: &mut [u8],
+    log: &mut [u32],
+    bus: Bus,
+    setup: Setup,
+    call: CallEntry,
+    o: OperationEntry,
+) -> Outcome
+    requires { ⌜ (call .address < 128) × (bus .got ≤ bus .used) ⌝ }
+    ensures { λ r. ⌜ Refines setup (blocking-operation setup (call .address) (operation-of (now (list .entry)) o)) (at (now (readings .entry)) (now (log .entry)) (now (rx .entry)) bus) (now (readings .entry)) (now (log .exit)) (now (rx .exit)) r ⌝ }
+{
+    let addr = call.address as u32;
+    if o.direction == 0 {
+        return blocking::write_without_stop(readings, log, bus, setup, addr, buslist::bytes_of(list, o));
+    }
+    blocking::read(readings, log, rx, bus, setup, addr, o.length as usize)
+}
+
+// One operation of a call.
+fn operation(
+    list: &[u8],
+    readings: &[u32],
+    rx: &mut [u8],
+    log: &mut [u32],
+    bus: Bus,
+    setup: Setup,
+    call: CallEntry,
+    o: OperationEntry,
+    previous: Previous,
+    last: bool,
+) -> Outcome
+    requires { ⌜ (call .address < 128) × (bus .got ≤ bus .used) ⌝ }
+    ensures { λ r. ⌜ Refines setup (operation-steps setup (engine-of (call .kind)) (early (call .kind)) (call .address) previous last (operation-of (now (list .entry)) o)) (at (now (readings .entry)) (now (log .entry)) (now (rx .entry)) bus) (now (readings .entry)) (now (log .exit)) (now (rx .exit)) r ⌝ }
+{
+    if is_polling(call.kind) {
+        return polling_operation(list, readings, rx, log, bus, call, o, previous, last);
+    }
+    blocking_operation(list, readings, rx, log, bus, setup, call, o)
+}
+
+// Whether an operation has no bytes.
+fn is_empty(list: &[u8], o: OperationEntry) -> bool
+    ensures { λ r. ⌜ r ≡ empty (operation-of (now (list .entry)) o) ⌝ }
+{
+    if o.direction == 0 {
+        return buslist::bytes_of(list, o).len() == 0;
+    }
+    o.length == 0
+}
+
+// The operation before, for the one after o. A blocking call passes over an empty one.
+fn moved(list: &[u8], call: CallEntry, o: OperationEntry, previous: Previous) -> Previous
+    ensures { λ r. ⌜ r ≡ moved (engine-of (call .kind)) previous (operation-of (now (list .entry)) o) ⌝ }
+{
+    if !is_polling(call.kind) {
+        if is_empty(list, o) {
+            return previous;
+        }
+    }
+    if o.direction == 0 {
+        Previous::Write
+    } else {
+        Previous::Read
+    }
+}
+
+// The end of a call: a blocking one closes after a write.
+fn end_call(readings: &[u32], log: &mut [u32], bus: Bus, setup: Setup, call: CallEntry, previous: Previous) -> Outcome
+    ensures { λ r. ⌜ ((rx : List ℕ) → Refines setup (end-steps setup (engine-of (call .kind)) previous) (at (now (readings .entry)) (now (log .entry)) rx bus) (now (readings .entry)) (now (log .exit)) rx r) ⌝ }
+{
+    if is_polling(call.kind) {
+        return Outcome::Well(bus);
+    }
+    blocking::close_after(readings, log, bus, setup, previous)
+}
+
+// The calls in order, until one does not end well.
+fn run_calls(
+    list: &[u8],
+    readings: &[u32],
+    rx: &mut [u8],
+    log: &mut [u32],
+    bus: Bus,
+    setup: Setup,
+) -> Stopped
+    requires { ⌜ (refusal (now list) (length (now rx)) ≡ 0) × (bus .got ≤ bus .used) ⌝ }
+    ensures { λ r. ⌜ Ends setup (map (steps-of setup) (calls-of (now (list .entry)))) (at (now (readings .entry)) (now (log .entry)) (now (rx .entry)) bus) (now (readings .entry)) (now (log .exit)) (now (rx .exit)) (r .calls) (r .outcome) ⌝ }
+{
+    let calls = buslist::call_count(list);
+    let mut bus = bus;
+    let mut outcome = Outcome::Well(bus);
+    let mut k = 0;
+    'calls: while k < calls {
+        let call = buslist::call_at(list, k);
+        let end = call.first as u32 + call.count as u32;
+        let mut j = call.first as u32;
+        let mut previous = Previous::Nothing;
+        while j < end {
+            let o = buslist::operation_at(list, j);
+            outcome = operation(list, readings, rx, log, bus, setup, call, o, previous, j + 1 == end);
+            let Outcome::Well(next) = outcome else {
+                break 'calls;
+            };
+            bus = next;
+            previous = moved(list, call, o, previous);
+            j += 1;
+        }
+        outcome = end_call(readings, log, bus, setup, call, previous);
+        let Outcome::Well(next) = outcome else {
+            break 'calls;
+        };
+        bus = next;
+        k += 1;
+    }
+    Stopped {
+        outcome,
+        calls: k as usize,
+    }
+}
+
+// The bus that an outcome leaves.
+fn bus_of(outcome: Outcome) -> Bus
+    ensures { λ r. ⌜ r ≡ bus-of outcome ⌝ }
+{
+    match outcome {
+        Outcome::Well(bus) => bus,
+        Outcome::Failed(_, bus) => bus,
+        Outcome::CutShort(_, bus) => bus,
+    }
+}
+
+// The answer and the counts of a run that ended so after these calls.
+fn counts_of(outcome: Outcome, calls: usize) -> Counts
+    ensures { λ r. ⌜ r ≡ ended-counts outcome calls ⌝ }
+{
+    let bus = bus_of(outcome);
+    Counts {
+        answer: registers::number(outcome),
+        calls,
+        used: bus.used,
+        made: bus.made,
+        got: bus.got,
+    }
+}
+
+// The run of an accepted list: the bring-up, then the calls.
+fn run_accepted(list: &[u8], readings: &[u32], rx: &mut [u8], log: &mut [u32]) -> Counts
+    requires { ⌜ refusal (now list) (length (now rx)) ≡ 0 ⌝ }
+    ensures { λ r. ⌜ Meant (run (now (list .entry)) (now (readings .entry)) (length (now (rx .entry))) (length (now (log .entry)))) (now (rx .entry)) (now (log .entry)) (now (rx .exit)) (now (log .exit)) r ⌝ }
+{
+    let setup = units::setup_of(buslist::read_settings(list));
+    let start = Bus {
+        used: 0,
+        made: 0,
+        got: 0,
+    };
+    let outcome = i2c::init(readings, log, start, setup);
+    let Outcome::Well(bus) = outcome else {
+        return counts_of(outcome, 0);
+    };
+    let stopped = run_calls(list, readings, rx, log, bus, setup);
+    let ended = stopped.outcome;
+    counts_of(ended, stopped.calls)
+}
+
+// The run of a bus list on these readings: the accesses go to the record `log`, the received bytes to `rx`.
+pub fn run(list: &[u8], readings: &[u32], rx: &mut [u8], log: &mut [u32]) -> Counts
+    ensures { λ r. ⌜ Meant (run (now (list .entry)) (now (readings .entry)) (length (now (rx .entry))) (length (now (log .entry)))) (now (rx .entry)) (now (log .entry)) (now (rx .exit)) (now (log .exit)) r ⌝ }
+{
+    let refused = buslist::refusal(list, rx.len());
+    if refused != 0 {
+        return Counts {
+            answer: refused,
+            calls: 0,
+            used: 0,
+            made: 0,
+            got: 0,
+        };
+    }
+    run_accepted(list, readings, rx, log)
 }
