@@ -39,7 +39,7 @@ pub not-first : {A : Type 0} → OneOf (1 ∷ 2 ∷ []) 0 → A
 not-first h = ⊎-elim (λ (e : _≡_ {A = ℕ} 0 1). absurd (omega arith)) (λ (e : _≡_ {A = ℕ} 0 2). absurd (omega arith)) h
 
 -- an answer that is no word ends the run as its outcome does
-no-word : (r : Checked) → NoWord r → (rs lg rx : List ℕ) (k : ℕ → State → After) (k′ : State → After)
+pub no-word : (r : Checked) → NoWord r → (rs lg rx : List ℕ) (k : ℕ → State → After) (k′ : State → After)
     → taking (checked rs lg rx r) k ≡ then (outcome rs lg rx (outcome-of r)) k′
 no-word (Checked.Word v b) h rs lg rx k k′ = not-first h
 no-word (Checked.Failed e b) h rs lg rx k k′ = refl
@@ -126,7 +126,7 @@ pub record Fell (lg : List ℕ) (b b′ : Bus) : Type 0 where
   pub fits : b .made < entries-in (length lg)
   pub more : b .made < b′ .made
 
-abbrev made-of : Took → ℕ
+abbrev pub made-of : Took → ℕ
 made-of (Took.word v (at rs lg rx b)) = b .made
 made-of (Took.failed e st) = 0
 made-of (Took.cut-short c st) = 0

@@ -1,105 +1,51 @@
+use mathlib.Core.Path.{sym, _∙_}
 use borrow.Author.Needs.{needs}
+use borrow.Author.Tests.{not-true, not-false}
+use Rattle.i2c.proofs.Checks.{check-none, check-fine, check-error, check-spurious}
 use Rattle.i2c.proofs.check_and_clear_error_flags.Statement.{statement}
 use Rattle.i2c.proofs.check_and_clear_error_flags.Tie as tie
-use Rattle.i2c.proofs.check_and_clear_error_flags.Reads as reads
-use Rattle.i2c.proofs.check_and_clear_error_flags.Lts as lts
-use Rattle.i2c.proofs.first_error.Reads as first-error-reads
-use Rattle.registers.proofs.clear_flag.Reads as clear-flag-reads
-use Rattle.registers.proofs.failed_of.Reads as failed-of-reads
-use Rattle.registers.proofs.has.Reads as has-reads
-use Rattle.registers.proofs.read.Reads as read-reads
-use Rattle.registers.proofs.word_of.Reads as word-of-reads
 
--- src/lib.rt:121:9
-read-requires : tie.Need-read-requires
-read-requires c κs = search needs
-
--- src/lib.rt:122:23
-enum-known-c : tie.Need-enum-known-c
-enum-known-c c = search needs
-
--- src/lib.rt:123:9
-same-length : tie.Need-same-length
-same-length c = search needs
-
--- src/lib.rt:123:9
 returns : tie.Need-returns
-returns c = ?
+returns c rx = check-none (c .before .before .before .read .ensures rx) (c .match .keys2)
 
--- src/lib.rt:125:9
-first-error-requires : tie.Need-first-error-requires
-first-error-requires c κs = search needs
-
--- src/lib.rt:126:27
-enum-known-flagged : tie.Need-enum-known-flagged
-enum-known-flagged c = search needs
-
--- src/lib.rt:127:26
-clear-flag-requires : tie.Need-clear-flag-requires
-clear-flag-requires c κs = search needs
-
--- src/lib.rt:127:9
-failed-of-requires : tie.Need-failed-of-requires
-failed-of-requires c κs = search needs
-
--- src/lib.rt:127:9
-same-length-2 : tie.Need-same-length-2
-same-length-2 c = search needs
-
--- src/lib.rt:127:9
 returns-2 : tie.Need-returns-2
-returns-2 c = ?
+returns-2 c rx =
+    let found = c .before .before .before .before .before .before .before .before in
+    rw (c .failed-of .ensures)
+    (check-error (found .before .before .before .before .before .before .read .ensures rx) (found .before .before .c .given .1) (found .first-error .ensures) (c .before .before .before .before .before .before .flagged .given .1) (c .before .before .before .clear-flag .ensures _ rx))
 
-enum-told : tie.Need-enum-told
-enum-told c = search needs
-
--- src/lib.rt:129:9
-has-requires : tie.Need-has-requires
-has-requires c κs = search needs
-
--- src/lib.rt:130:9
-same-length-3 : tie.Need-same-length-3
-same-length-3 c = search needs
-
--- src/lib.rt:130:9
 returns-3 : tie.Need-returns-3
-returns-3 c = ?
+returns-3 c rx =
+    let found = c .before .before .before .before in
+    check-fine (found .before .before .before .before .before .before .read .ensures rx) (found .before .before .c .given .1) (found .first-error .ensures) (c .before .before .enum-told .given .1)
+    (sym (c .before .has .ensures) ∙ not-true _ (c .if1 .taken))
 
--- src/lib.rt:132:13
-clear-flag-requires-2 : tie.Need-clear-flag-requires-2
-clear-flag-requires-2 c κs = search needs
-
--- src/lib.rt:132:5
-word-of-requires : tie.Need-word-of-requires
-word-of-requires c κs = search needs
-
--- src/lib.rt:118:1
-same-length-4 : tie.Need-same-length-4
-same-length-4 c = search needs
-
--- src/lib.rt:118:1
 returns-4 : tie.Need-returns-4
-returns-4 c = ?
+returns-4 c rx =
+    let found = c .before .before .before .before .before .before .before .before .before in
+    rw (c .word-of .ensures)
+    (check-spurious (found .before .before .before .before .before .before .read .ensures rx) (found .before .before .c .given .1) (found .first-error .ensures) (c .before .before .before .before .before .before .before .enum-told .given .1)
+    (sym (c .before .before .before .before .before .before .has .ensures) ∙ not-false _ (c .before .before .before .before .before .if1 .left)) (c .before .before .before .clear-flag2 .ensures _ rx))
 
 pub check-and-clear-error-flags-spec : {M : Type 1} → statement M
 check-and-clear-error-flags-spec =
     tie.close
     (tie.spec
-    read-requires
-    enum-known-c
-    same-length
+    (λ c κs. search needs)
+    (λ c. search needs)
+    (λ c. search needs)
     returns
-    first-error-requires
-    enum-known-flagged
-    clear-flag-requires
-    failed-of-requires
-    same-length-2
+    (λ c κs. search needs)
+    (λ c. search needs)
+    (λ c κs. search needs)
+    (λ c κs. search needs)
+    (λ c. search needs)
     returns-2
-    enum-told
-    has-requires
-    same-length-3
+    (λ c. search needs)
+    (λ c κs. search needs)
+    (λ c. search needs)
     returns-3
-    clear-flag-requires-2
-    word-of-requires
-    same-length-4
+    (λ c κs. search needs)
+    (λ c κs. search needs)
+    (λ c. search needs)
     returns-4)

@@ -1,94 +1,77 @@
+use Prim.Native.Nat.{ℕ, _-_}
+use native.Mathlib.Omega.{arith}
+use mathlib.Core.Path.{_≡_, refl, sym, _∙_}
+use mathlib.Core.List.{List, [], _∷_}
+use lib.ListN.{length}
+use borrow.Author.Needs.{needs}
+use Rattle.units.specs.declared.Setup.{Setup}
+use Rattle.registers.specs.Access.{entries-in}
+use Rattle.registers.specs.Machine.{Step, next}
+use Rattle.registers.specs.State.{at}
+use Rattle.registers.specs.Contract.{Reaches}
+use Rattle.registers.proofs.Steps.{here, read-step, read-stops, read-fell, ends-well}
+use Rattle.i2c.proofs.Checks.{check-master-checks, check-step, check-stops, check-fell, cond-true, cond-false}
 use Rattle.i2c.proofs.check_master.Statement.{statement}
 use Rattle.i2c.proofs.check_master.Tie as tie
-use Rattle.i2c.proofs.check_master.Reads as reads
-use Rattle.i2c.proofs.check_master.Lts as lts
-use Rattle.i2c.proofs.check_and_clear_error_flags.Reads as check-and-clear-error-flags-reads
-use Rattle.registers.proofs.has.Reads as has-reads
-use Rattle.registers.proofs.outcome_of.Reads as outcome-of-reads
-use Rattle.registers.proofs.read.Reads as read-reads
 
 abbrev Inv-loop : tie.InvT-loop
-Inv-loop readings log₀ bus₀ log bus = ?
+Inv-loop readings log₀ bus₀ log bus =
+    ((s : Setup) (rx : List ℕ) → Reaches s (Step.check-master ∷ []) (at readings log₀ rx bus₀) (Step.check-master ∷ []) (at readings log rx bus))
+    × (length log ≡ length log₀)
 
 abbrev μ-loop : tie.MeasureT-loop
-μ-loop readings log₀ bus₀ log bus = ?
+μ-loop readings log₀ bus₀ log bus = entries-in (length log) - bus .made
 
--- src/lib.rt:175:5
 loop-holds : tie.Need-loop-holds Inv-loop μ-loop
-loop-holds c = ?
+loop-holds c = ((λ s rx. here), refl)
 
--- src/lib.rt:176:13
-check-and-clear-error-flags-requires :
-    tie.Need-check-and-clear-error-flags-requires Inv-loop μ-loop
-check-and-clear-error-flags-requires c κs = ?
-
--- src/lib.rt:177:30
-enum-known-c : tie.Need-enum-known-c Inv-loop μ-loop
-enum-known-c c = ?
-
--- src/lib.rt:178:13
-outcome-of-requires : tie.Need-outcome-of-requires Inv-loop μ-loop
-outcome-of-requires c κs = ?
-
--- src/lib.rt:178:13
-same-length : tie.Need-same-length Inv-loop μ-loop
-same-length c = ?
-
--- src/lib.rt:178:13
 returns : tie.Need-returns Inv-loop μ-loop
-returns c = ?
+returns c s rx =
+    let check = c .before .before .before .before in
+    rw (c .outcome-of .ensures) (check-stops (check .before .before .loop .inv .0 s rx) (check .check-and-clear-error-flags .ensures rx) check-master-checks (c .before .match .keys2))
 
--- src/lib.rt:180:13
-read-requires : tie.Need-read-requires Inv-loop μ-loop
-read-requires c κs = ?
-
--- src/lib.rt:181:27
-enum-known-d : tie.Need-enum-known-d Inv-loop μ-loop
-enum-known-d c = ?
-
--- src/lib.rt:182:13
-outcome-of-requires-2 : tie.Need-outcome-of-requires-2 Inv-loop μ-loop
-outcome-of-requires-2 c κs = ?
-
--- src/lib.rt:182:13
-same-length-2 : tie.Need-same-length-2 Inv-loop μ-loop
-same-length-2 c = ?
-
--- src/lib.rt:182:13
 returns-2 : tie.Need-returns-2 Inv-loop μ-loop
-returns-2 c = ?
+returns-2 c s rx =
+    let read = c .before .before .before .before in
+    let check = read .before .before .before .before .before .before .before in
+    rw (c .outcome-of2 .ensures)
+    (read-stops (check-step (check .before .before .loop .inv .0 s rx) (check .check-and-clear-error-flags .ensures rx) check-master-checks (read .before .before .before .c .given .1) refl) (read .read .ensures rx) refl refl (c .before .match2 .keys2))
 
--- src/lib.rt:185:12
-has-requires : tie.Need-has-requires Inv-loop μ-loop
-has-requires c κs = ?
-
--- src/lib.rt:186:13
-same-length-3 : tie.Need-same-length-3 Inv-loop μ-loop
-same-length-3 c = ?
-
--- src/lib.rt:186:13
 returns-3 : tie.Need-returns-3 Inv-loop μ-loop
-returns-3 c = ?
+unfolding next
+returns-3 c s rx =
+    let read = c .before .before .before .before .before .before .before in
+    let check = read .before .before .before .before .before .before .before in
+    ends-well
+    (read-step (check-step (check .before .before .loop .inv .0 s rx) (check .check-and-clear-error-flags .ensures rx) check-master-checks (read .before .before .before .c .given .1) refl) (read .read .ensures rx) refl refl refl (c .before .before .before .d .given .1)
+    (cond-true [] _ (sym (c .before .has .ensures) ∙ c .if1 .taken)))
 
--- src/lib.rt:188:12
-has-requires-2 : tie.Need-has-requires-2 Inv-loop μ-loop
-has-requires-2 c κs = ?
-
--- src/lib.rt:189:13
-same-length-4 : tie.Need-same-length-4 Inv-loop μ-loop
-same-length-4 c = ?
-
--- src/lib.rt:189:13
 returns-4 : tie.Need-returns-4 Inv-loop μ-loop
-returns-4 c = ?
+unfolding next
+returns-4 c s rx =
+    let read = c .before .before .before .before .before .before .before .before .before in
+    let check = read .before .before .before .before .before .before .before in
+    ends-well
+    (read-step (check-step (check .before .before .loop .inv .0 s rx) (check .check-and-clear-error-flags .ensures rx) check-master-checks (read .before .before .before .c .given .1) refl) (read .read .ensures rx) refl refl refl (c .before .before .before .before .before .d .given .1)
+    (cond-false [] _ (sym (c .before .before .before .has .ensures) ∙ c .before .before .if1 .left) ∙ cond-true [] _ (sym (c .before .has2 .ensures) ∙ c .if2 .taken)))
 
--- src/lib.rt:175:5
 loop-less : tie.Need-loop-less Inv-loop μ-loop
-loop-less c = ?
+loop-less c =
+    let read = c .before .before .before .before .before .before .before .before .before in
+    let check = read .before .before .before .before .before .before .before in
+    let f = check-fell (check .check-and-clear-error-flags .ensures []) (read .before .before .before .c .given .1) in
+    let g = read-fell (read .read .ensures []) (c .before .before .before .before .before .d .given .1) in
+    omega (arith, check .check-and-clear-error-flags .kept, read .read .kept)
 
--- src/lib.rt:175:5
 loop-again : tie.Need-loop-again Inv-loop μ-loop
-loop-again c = ?
+unfolding next
+loop-again c =
+    let read = c .before .before .before .before .before .before .before .before .before in
+    let check = read .before .before .before .before .before .before .before in (
+      (λ s rx. read-step (check-step (check .before .before .loop .inv .0 s rx) (check .check-and-clear-error-flags .ensures rx) check-master-checks (read .before .before .before .c .given .1) refl) (read .read .ensures rx) refl refl refl (c .before .before .before .before .before .d .given .1)
+          (cond-false [] _ (sym (c .before .before .before .has .ensures) ∙ c .before .before .if1 .left) ∙ cond-false [] _ (sym (c .before .has2 .ensures) ∙ c .if2 .left))),
+      omega (arith, check .check-and-clear-error-flags .kept, read .read .kept),
+    )
 
 pub check-master-spec : {M : Type 1} → statement M
 check-master-spec =
@@ -97,21 +80,21 @@ check-master-spec =
     Inv-loop
     μ-loop
     loop-holds
-    check-and-clear-error-flags-requires
-    enum-known-c
-    outcome-of-requires
-    same-length
+    (λ c κs. search needs)
+    (λ c. search needs)
+    (λ c κs. search needs)
+    (λ c. search needs)
     returns
-    read-requires
-    enum-known-d
-    outcome-of-requires-2
-    same-length-2
+    (λ c κs. search needs)
+    (λ c. search needs)
+    (λ c κs. search needs)
+    (λ c. search needs)
     returns-2
-    has-requires
-    same-length-3
+    (λ c κs. search needs)
+    (λ c. search needs)
     returns-3
-    has-requires-2
-    same-length-4
+    (λ c κs. search needs)
+    (λ c. search needs)
     returns-4
     loop-less
     loop-again)

@@ -1,66 +1,60 @@
+use mathlib.Core.Bool.{false}
+use mathlib.Core.Path.{_≡_, sym, _∙_}
+use Rattle.registers.specs.Word.{has, AF, OVR, PECERR, TIMEOUT}
+use Rattle.registers.specs.Machine.{check-word}
 use borrow.Author.Needs.{needs}
 use Rattle.i2c.proofs.first_error.Statement.{statement}
 use Rattle.i2c.proofs.first_error.Tie as tie
-use Rattle.i2c.proofs.first_error.Reads as reads
-use Rattle.i2c.proofs.first_error.Lts as lts
-use Rattle.registers.proofs.has.Reads as has-reads
 
--- src/lib.rt:99:8
-has-requires : tie.Need-has-requires
-has-requires c κs = search needs
+-- the flags that were not set
+none1 : (c : tie.Else1) → has TIMEOUT (c .before .before .args .word) ≡ false
+none1 c = sym (c .before .has .ensures) ∙ c .if1 .left
 
--- src/lib.rt:100:9
+none2 : (c : tie.Else2) → has PECERR (c .before .before .before .before .args .word) ≡ false
+none2 c = sym (c .before .has2 .ensures) ∙ c .if2 .left
+
+none3 : (c : tie.Else3) → has OVR (c .before .before .before .before .before .before .args .word) ≡ false
+none3 c = sym (c .before .has3 .ensures) ∙ c .if3 .left
+
+none4 : (c : tie.Else4) → has AF (c .before .before .before .before .before .before .before .before .args .word) ≡ false
+none4 c = sym (c .before .has4 .ensures) ∙ c .if4 .left
+
 returns : tie.Need-returns
-returns c = ?
+unfolding check-word
+returns c = rw (sym (c .before .has .ensures) ∙ c .if1 .taken)
 
--- src/lib.rt:102:8
-has-requires-2 : tie.Need-has-requires-2
-has-requires-2 c κs = search needs
-
--- src/lib.rt:103:9
 returns-2 : tie.Need-returns-2
-returns-2 c = ?
+unfolding check-word
+returns-2 c = rw (none1 (c .before .before), sym (c .before .has2 .ensures) ∙ c .if2 .taken)
 
--- src/lib.rt:105:8
-has-requires-3 : tie.Need-has-requires-3
-has-requires-3 c κs = search needs
-
--- src/lib.rt:106:9
 returns-3 : tie.Need-returns-3
-returns-3 c = ?
+unfolding check-word
+returns-3 c = rw (none1 (c .before .before .before .before), none2 (c .before .before), sym (c .before .has3 .ensures) ∙ c .if3 .taken)
 
--- src/lib.rt:108:8
-has-requires-4 : tie.Need-has-requires-4
-has-requires-4 c κs = search needs
-
--- src/lib.rt:109:9
 returns-4 : tie.Need-returns-4
-returns-4 c = ?
+unfolding check-word
+returns-4 c = rw (none1 (c .before .before .before .before .before .before), none2 (c .before .before .before .before), none3 (c .before .before), sym (c .before .has4 .ensures) ∙ c .if4 .taken)
 
--- src/lib.rt:111:8
-has-requires-5 : tie.Need-has-requires-5
-has-requires-5 c κs = search needs
-
--- src/lib.rt:112:9
 returns-5 : tie.Need-returns-5
-returns-5 c = ?
+unfolding check-word
+returns-5 c = rw (none1 (c .before .before .before .before .before .before .before .before), none2 (c .before .before .before .before .before .before), none3 (c .before .before .before .before), none4 (c .before .before), sym (c .before .has5 .ensures) ∙ c .if5 .taken)
 
--- src/lib.rt:96:1
 returns-6 : tie.Need-returns-6
-returns-6 c = ?
+unfolding check-word
+returns-6 c = rw (none1 (c .before .before .before .before .before .before .before .before), none2 (c .before .before .before .before .before .before), none3 (c .before .before .before .before), none4 (c .before .before), sym (c .before .has5 .ensures) ∙ c .if5 .left)
 
 pub first-error-spec : {M : Type 1} → statement M
 first-error-spec =
     tie.close
     (tie.spec
-    has-requires
+    (λ c κs. search needs)
     returns
-    has-requires-2
+    (λ c κs. search needs)
     returns-2
-    has-requires-3
+    (λ c κs. search needs)
     returns-3
-    has-requires-4
+    (λ c κs. search needs)
     returns-4
-    has-requires-5
+    (λ c κs. search needs)
     returns-5
     returns-6)

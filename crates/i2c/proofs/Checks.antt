@@ -1,0 +1,154 @@
+-- The laws of a check: what makes up its answer, and how it carries the run on.
+-- Assumes nothing.
+use Prim.Native.Nat.{ℕ, zero, suc, _≤_}
+use native.Mathlib.Omega.{arith}
+use mathlib.Core.Bool.{Bool, true, false, cond}
+use mathlib.Core.Path.{_≡_, refl, sym, ap, _∙_}
+use mathlib.Core.List.{List, [], _∷_, _++_, append-assoc}
+use Rattle.units.specs.declared.Setup.{Setup}
+use Rattle.registers.specs.declared.Bus.{Bus}
+use Rattle.registers.specs.declared.BusError.{BusError}
+use Rattle.registers.specs.declared.Source.{Source}
+use Rattle.registers.specs.declared.Checked.{Checked}
+use Rattle.registers.specs.declared.Outcome.{Outcome}
+use Rattle.registers.specs.declared.Flagged.{Flagged}
+use Rattle.registers.specs.Word.{has, BERR}
+use Rattle.registers.specs.Access.{SR1, wSR1, clear-word}
+use Rattle.registers.specs.Machine.{Step, Access, access, next, check-word, after-check}
+use Rattle.registers.specs.State.{State, After, Took, at, then, taking, entry, recorded, received, room, resume, read, write-one, write, check, check-flags, took-then, took-word}
+use Rattle.registers.specs.Contract.{outcome, checked, outcome-of, failed-of, word-of, Reads, Writes, Checks, Refines, Reaches}
+use Rattle.registers.proofs.Laws.{read-law, write-law, fail-law, received-other}
+use Rattle.registers.proofs.Steps.{NoWord, not-first, no-word, Fell, made-of, read-fell}
+
+-- the answer of a check, from its read and its clear
+module _ {st : State} {rs lg rx : List ℕ} {r : Checked} (x : Reads SR1 st rs lg rx r) {n : Source} where
+  pub check-none : NoWord r → Checks n st rs lg rx r
+  unfolding check
+  check-none h = record { is = rw (← x .is) (go r h _) }
+    where
+      go : (r : Checked) → NoWord r → (k : ℕ → State → Took) → checked rs lg rx r ≡ took-word (checked rs lg rx r) k
+      go (Checked.Word v b) h k = not-first h
+      go (Checked.Failed e b) h k = refl
+      go (Checked.CutShort c b) h k = refl
+
+  module _ {v : ℕ} {b : Bus} (e : r ≡ Checked.Word v b) {f : Flagged} (d : f ≡ check-word n v) where
+    pub check-fine : f ≡ Flagged.Nothing → has BERR v ≡ false → Checks n st rs lg rx (Checked.Word v b)
+    unfolding check
+    check-fine h t = record { is = rw (← x .is, e, ← d, h, t) }
+
+    pub check-error : {a : BusError} → f ≡ Flagged.Error a → {lg′ : List ℕ} {o : Outcome} → Writes wSR1 (clear-word a) (at rs lg rx b) rs lg′ rx o
+        → Checks n st rs lg′ rx (failed-of o a)
+    unfolding check
+    check-error {a} h {lg′} {o} y = record { is = rw (← x .is, e, ← d, h, ← y .is) (go o) }
+      where
+        go : (o : Outcome) → checked rs lg′ rx (failed-of o a) ≡ took-then (outcome rs lg′ rx o) (λ st′. Took.failed a st′)
+        go (Outcome.Well b) = refl
+        go (Outcome.Failed e b) = refl
+        go (Outcome.CutShort c b) = refl
+
+    pub check-spurious : f ≡ Flagged.Nothing → has BERR v ≡ true → {lg′ : List ℕ} {o : Outcome} → Writes wSR1 (clear-word BusError.Bus) (at rs lg rx b) rs lg′ rx o
+        → Checks n st rs lg′ rx (word-of o v)
+    unfolding check
+    check-spurious h t {lg′} {o} y = record { is = rw (← x .is, e, ← d, h, t, ← y .is) (go o) }
+      where
+        go : (o : Outcome) → checked rs lg′ rx (word-of o v) ≡ took-then (outcome rs lg′ rx o) (λ st′. Took.word v st′)
+        go (Outcome.Well b) = refl
+        go (Outcome.Failed e b) = refl
+        go (Outcome.CutShort c b) = refl
+
+-- the step i checks with the source n: on the word v, what follows it is m v
+pub record Checking (s : Setup) (i : Step) (n : Source) (m : ℕ → List Step) : Type 0 where
+  pub reads : access i ≡ Access.read SR1
+  pub follows : (v : ℕ) → next s i v ≡ after-check (check-word n v) (has BERR v) (m v)
+
+-- the three steps that check
+pub check-checks : {s : Setup} {f : ℕ} {n : Source} → Checking s (Step.check f n) n (λ v. cond (has f v) [] (Step.check f n ∷ []))
+unfolding next
+check-checks = record { reads = refl; follows = λ v. refl }
+
+pub check-twice-checks : {s : Setup} {f : ℕ} {n : Source} → Checking s (Step.check-twice f n) n (λ v. Step.checked-twice f n ∷ [])
+unfolding next
+check-twice-checks = record { reads = refl; follows = λ v. refl }
+
+pub check-master-checks : {s : Setup} → Checking s Step.check-master Source.Unknown (λ v. Step.checked-master ∷ [])
+unfolding next
+check-master-checks = record { reads = refl; follows = λ v. refl }
+
+-- what such a step comes to
+pub check-law : {s : Setup} {i : Step} {n : Source} {m : ℕ → List Step} → Checking s i n m → (p : List Step) (st : State)
+    → resume s (i ∷ p) st ≡ taking (check n st) (λ v st′. resume s (m v ++ p) st′)
+unfolding check after-check
+check-law {s} {i} {n} {m} d p st = read-law s i SR1 p st (d .reads) refl ∙ go (read SR1 st)
+  where
+    on : ℕ → State → After
+    on v st′ = resume s (m v ++ p) st′
+
+    error : (e : BusError) (w : After) → then w (resume s (Step.fail e ∷ p)) ≡ taking (took-then w (λ st′. Took.failed e st′)) on
+    error e (After.going st) = fail-law s e p st
+    error e (After.failed e′ st) = refl
+    error e (After.cut-short c st) = refl
+
+    spurious : (v : ℕ) (w : After) → then w (resume s (m v ++ p)) ≡ taking (took-then w (λ st′. Took.word v st′)) on
+    spurious v (After.going st) = refl
+    spurious v (After.failed e st) = refl
+    spurious v (After.cut-short c st) = refl
+
+    flags : (f : Flagged) (t : Bool) (v : ℕ) (st : State) → resume s (after-check f t (m v) ++ p) st ≡ taking (check-flags f t v st) on
+    flags (Flagged.Error e) t v st = write-law s wSR1 (clear-word e) (Step.fail e ∷ p) st refl ∙ error e (write wSR1 (clear-word e) st)
+    flags Flagged.Nothing true v st = write-law s wSR1 (clear-word BusError.Bus) (m v ++ p) st refl ∙ spurious v (write wSR1 (clear-word BusError.Bus) st)
+    flags Flagged.Nothing false v st = refl
+
+    go : (t : Took) → taking t (λ v st′. resume s (next s i v ++ p) (received (entry SR1 v) st′))
+        ≡ taking (took-word t (λ v st′. check-flags (check-word n v) (has BERR v) v st′)) on
+    go (Took.word v st) = rw (d .follows, received-other (entry SR1 v) st refl) (flags (check-word n v) (has BERR v) v st)
+    go (Took.failed e st) = refl
+    go (Took.cut-short c st) = refl
+
+-- a check for the step i
+module _ {s : Setup} {q : List Step} {st : State} {i : Step} {q₁ : List Step} {st₁ : State} (g : Reaches s q st (i ∷ q₁) st₁)
+    {n : Source} {rs lg rx : List ℕ} {r : Checked} (x : Checks n st₁ rs lg rx r)
+    {m : ℕ → List Step} (d : Checking s i n m) where
+  pub check-step : {v : ℕ} {b : Bus} → r ≡ Checked.Word v b → {m′ : List Step} → m v ≡ m′ → Reaches s q st (m′ ++ q₁) (at rs lg rx b)
+  check-step e {m′} h = record { is = λ p. g .is p ∙ check-law d (q₁ ++ p) st₁ ∙ rw (← x .is, e, h, append-assoc m′ q₁ p) }
+
+  pub check-stops : NoWord r → Refines s q st rs lg rx (outcome-of r)
+  check-stops h = record { is = λ p. g .is p ∙ check-law d (q₁ ++ p) st₁ ∙ rw (← x .is) (no-word r h rs lg rx _ (resume s p)) }
+
+-- a check that answers a word has made an access, so fewer fit
+pub check-fell : {n : Source} {rs lg rx : List ℕ} {b : Bus} {rs′ lg′ rx′ : List ℕ} {r : Checked} {v : ℕ} {b′ : Bus}
+    → Checks n (at rs lg rx b) rs′ lg′ rx′ r → r ≡ Checked.Word v b′ → Fell lg b b′
+unfolding check write write-one recorded
+check-fell {n} {rs} {lg} {rx} {b} {rs′} {lg′} {rx′} {r} {v} {b′} x e =
+    go (read SR1 (at rs lg rx b)) refl (ap (checked rs′ lg′ rx′) (sym e) ∙ x .is)
+  where
+    answer : Took
+    answer = Took.word v (at rs′ lg′ rx′ b′)
+
+    error : (st : State) (c : ℕ) (a : BusError) (k : ℕ) → answer ≡ took-then (write-one wSR1 c st k) (λ st′. Took.failed a st′) → ⊥
+    error st c a zero h = let z : _≡_ {A = ℕ} 0 1 = cc in omega arith
+    error st c a (suc k) h = let z : _≡_ {A = ℕ} 0 1 = cc in omega arith
+
+    spurious : (st : State) (c w k : ℕ) → answer ≡ took-then (write-one wSR1 c st k) (λ st′. Took.word w st′) → made-of (Took.word w st) ≤ b′ .made
+    spurious st c w zero h = let z : _≡_ {A = ℕ} 0 1 = cc in absurd (omega arith)
+    spurious (at rs₁ lg₁ rx₁ b₁) c w (suc k) h = omega (arith, ap made-of h)
+
+    flags : (f : Flagged) (t : Bool) (w : ℕ) (st : State) → answer ≡ check-flags f t w st → made-of (Took.word w st) ≤ b′ .made
+    flags (Flagged.Error a) t w st h = absurd (error st (clear-word a) a (room st) h)
+    flags Flagged.Nothing true w st h = spurious st (clear-word BusError.Bus) w (room st) h
+    flags Flagged.Nothing false w st h = omega (arith, ap made-of h)
+
+    go : (t : Took) → read SR1 (at rs lg rx b) ≡ t → answer ≡ took-word t (λ w st′. check-flags (check-word n w) (has BERR w) w st′) → Fell lg b b′
+    go (Took.word w (at rs₁ lg₁ rx₁ b₁)) k h =
+        let y : Reads SR1 (at rs lg rx b) rs₁ lg₁ rx₁ (Checked.Word w b₁) = record { is = sym k } in
+        let f = read-fell y refl in
+        let l = flags (check-word n w) (has BERR w) w (at rs₁ lg₁ rx₁ b₁) h in
+        record { fits = f .fits; more = omega arith }
+    go (Took.failed a st) k h = let z : _≡_ {A = ℕ} 0 1 = cc in absurd (omega arith)
+    go (Took.cut-short c st) k h = let z : _≡_ {A = ℕ} 0 1 = cc in absurd (omega arith)
+
+-- a test that came out, in a choice
+pub cond-true : {A : Type 0} {t : Bool} (x y : A) → t ≡ true → cond t x y ≡ x
+cond-true x y e = rw e
+
+pub cond-false : {A : Type 0} {t : Bool} (x y : A) → t ≡ false → cond t x y ≡ y
+cond-false x y e = rw e

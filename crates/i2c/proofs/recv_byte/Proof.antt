@@ -1,0 +1,29 @@
+use mathlib.Core.List.{[]}
+use borrow.Author.Needs.{needs}
+use Rattle.registers.proofs.Steps.{here, call-step, call-stops, call-last, refines-fewer}
+use Rattle.i2c.proofs.recv_byte.Statement.{statement}
+use Rattle.i2c.proofs.recv_byte.Tie as tie
+
+returns : tie.Need-returns
+returns c s = call-stops (c .before .before .before .check-twice .ensures s _) _ here (c .match .keys2)
+
+read-data-requires : tie.Need-read-data-requires
+read-data-requires c κs = refines-fewer (λ s. c .before .before .before .before .before .before .before .check-twice .ensures s []) (c .before .before .before .a .given .1) (c .before .before .before .before .before .before .before .before .before .before .before .before .pre)
+
+returns-2 : tie.Need-returns-2
+returns-2 c s =
+    let read = c .before .before .before .before in
+    call-last (call-step (read .before .before .before .before .before .before .before .before .check-twice .ensures s _) _ here (read .before .before .before .before .a .given .1)) (read .read-data .ensures s)
+
+pub recv-byte-spec : {M : Type 1} → statement M
+recv-byte-spec =
+    tie.close
+    (tie.spec
+    (λ c κs. search needs)
+    (λ c. search needs)
+    (λ c. search needs)
+    returns
+    read-data-requires
+    (λ c. search needs)
+    (λ c. search needs)
+    returns-2)

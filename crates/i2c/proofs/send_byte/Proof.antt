@@ -1,0 +1,35 @@
+use mathlib.Core.Path.{refl}
+use borrow.Author.Needs.{needs}
+use Rattle.registers.proofs.Steps.{here, write-step, write-stops, call-step, call-stops, call-last}
+use Rattle.i2c.proofs.send_byte.Statement.{statement}
+use Rattle.i2c.proofs.send_byte.Tie as tie
+
+returns : tie.Need-returns
+returns c s rx = call-stops (c .before .before .before .check-until .ensures s rx) _ here (c .match .keys2)
+
+returns-2 : tie.Need-returns-2
+returns-2 c s rx =
+    write-stops (call-step (c .before .before .before .before .before .before .before .before .before .before .check-until .ensures s rx) _ here (c .before .before .before .before .before .before .a .given .1)) (c .before .before .before .write .ensures _ rx) refl (c .match2 .keys2)
+
+returns-3 : tie.Need-returns-3
+returns-3 c s rx =
+    let write = c .before .before .before .before .before .before .before .before .before in
+    call-last
+    (write-step (call-step (write .before .before .before .before .before .before .before .check-until .ensures s rx) _ here (write .before .before .before .a .given .1)) (write .write .ensures _ rx) refl (c .before .before .before .before .before .b .given .1))
+    (c .before .before .check-until2 .ensures s rx)
+
+pub send-byte-spec : {M : Type 1} → statement M
+send-byte-spec =
+    tie.close
+    (tie.spec
+    (λ c κs. search needs)
+    (λ c. search needs)
+    (λ c. search needs)
+    returns
+    (λ c κs. search needs)
+    (λ c. search needs)
+    (λ c. search needs)
+    returns-2
+    (λ c κs. search needs)
+    (λ c. search needs)
+    returns-3)
