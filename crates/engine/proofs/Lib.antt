@@ -1,0 +1,4 @@
+pub mod RunLaws
+pub mod Received
+pub mod Result
+pub mod CallLaws

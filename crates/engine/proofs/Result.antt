@@ -1,0 +1,82 @@
+-- A run that ends in a state gives the counts and the buffers that the meaning has.
+-- Assumes nothing.
+use Prim.Native.Nat.{ℕ, _-_, _*_, _/_, _≤_}
+use native.Mathlib.Omega.{arith}
+use native.Mathlib.Nat.{zero-add}
+use mathlib.Core.Path.{_≡_, refl, sym, ap, _∙_}
+use mathlib.Core.List.{List, [], map}
+use lib.ListN.{length}
+use lib.Seq.{sets}
+use borrow.Author.Tests.{eq-eqb, ne-eqb}
+use Rattle.units.specs.declared.Setup.{Setup}
+use Rattle.units.specs.Setup.{setup-of}
+use Rattle.buslist.specs.Table.{settings-of}
+use Rattle.buslist.specs.Refusal.{refusal}
+use Rattle.buslist.specs.Meaning.{calls-of}
+use Rattle.registers.specs.declared.Bus.{Bus}
+use Rattle.registers.specs.declared.Outcome.{Outcome}
+use Rattle.registers.specs.Access.{entries-in, record-of, received-of, reads, number, Ending}
+use Rattle.registers.specs.Machine.{Step, Run, whole-run, bring-up}
+use Rattle.registers.specs.State.{State, at, room, left, replay, resume}
+use Rattle.registers.specs.Contract.{ending-of}
+use Rattle.engine.specs.declared.Counts.{Counts}
+use Rattle.engine.specs.Calls.{steps-of}
+use Rattle.engine.specs.Whole.{nothing-yet, Final, after-calls, calls-run, bus-of, final}
+use Rattle.engine.specs.Run.{run, result, accepted-run, counts-of, filled, Meant, ended-counts}
+use Rattle.engine.proofs.RunLaws.{final-of, whole-run-is, replay-is, filled-is, record-length, whole-room}
+use Rattle.engine.proofs.Received.{received-fits}
+
+-- a refused list: the refusal, no access, and nothing changed
+pub refused-meant : (l rs rx lg : List ℕ) → (refusal l (length rx) ≡ 0 → ⊥)
+    → Meant (run l rs (length rx) (length lg)) rx lg rx lg (record { answer = refusal l (length rx); calls = 0; used = 0; made = 0; got = 0 })
+unfolding run result counts-of filled record-of received-of reads
+refused-meant l rs rx lg h =
+    record { counts = rw (ne-eqb _ _ h); received = rw (ne-eqb _ _ h); recorded = rw (ne-eqb _ _ h) }
+
+room-start : (rs lg rx : List ℕ) → room (at rs lg rx nothing-yet) ≡ entries-in (length lg)
+unfolding room
+room-start rs lg rx = omega arith
+
+left-start : (rs lg rx : List ℕ) → left (at rs lg rx nothing-yet) ≡ rs
+unfolding left
+left-start rs lg rx = refl
+
+-- an accepted list, from the state that its run ends in
+pub accepted-meant : (l rs rx lg rx′ lg′ : List ℕ) (k : ℕ) (o : Outcome) → refusal l (length rx) ≡ 0
+    → after-calls 0 (resume (setup-of (settings-of l)) (bring-up (setup-of (settings-of l))) (at rs lg rx nothing-yet))
+    (calls-run (setup-of (settings-of l)) (map (steps-of (setup-of (settings-of l))) (calls-of l)))
+    ≡ final rs lg′ rx′ k o
+    → Meant (run l rs (length rx) (length lg)) rx lg rx′ lg′ (ended-counts o k)
+unfolding run result accepted-run counts-of
+accepted-meant l rs rx lg rx′ lg′ k o ok e =
+    rw (eq-eqb _ _ ok)
+    (go (whole-run s cs (entries-in (length lg)) rs) (received-fits l (length rx) ok s (entries-in (length lg)) rs) (whole-room s cs (entries-in (length lg)) rs)
+    (sym e ∙ whole-run-is s cs (at rs lg rx nothing-yet) ∙ rw (room-start rs lg rx, left-start rs lg rx)))
+  where
+    s : Setup
+    s = setup-of (settings-of l)
+
+    cs : List (List Step)
+    cs = map (steps-of s) (calls-of l)
+
+    go : (r : Run) → length (received-of (r .log)) ≤ length rx → length (r .log) ≤ entries-in (length lg)
+        → final rs lg′ rx′ k o ≡ final-of (at rs lg rx nothing-yet) r
+        → Meant (record { answer = number (r .ending); calls = r .calls; log = r .log }) rx lg rx′ lg′ (ended-counts o k)
+    go r fits room e =
+        let f : at rs lg′ rx′ (bus-of o)
+            ≡ at rs (sets lg 0 (record-of (r .log))) (sets rx 0 (received-of (r .log)))
+            (record { used = reads (r .log); made = length (r .log); got = length (received-of (r .log)) })
+            = ap (λ (z : Final). z .state) e ∙ replay-is (r .log) rs lg rx nothing-yet ∙ simp zero-add in
+        let b : bus-of o ≡ record { used = reads (r .log); made = length (r .log); got = length (received-of (r .log)) } = cc in
+        let n = ap (λ (z : Final). number (z .ending)) e in
+        let c = ap (λ (z : Final). z .calls) e in
+        let u = ap (λ (z : Bus). z .used) b in
+        let m = ap (λ (z : Bus). z .made) b in
+        let g = ap (λ (z : Bus). z .got) b in
+        let lg-is : lg′ ≡ sets lg 0 (record-of (r .log)) = cc in
+        let rx-is : rx′ ≡ sets rx 0 (received-of (r .log)) = cc in
+        record {
+          counts = cc;
+          received = rx-is ∙ filled-is rx (received-of (r .log)) fits;
+          recorded = lg-is ∙ filled-is lg (record-of (r .log)) (omega (arith, record-length (r .log)));
+        }
