@@ -2,5 +2,6 @@ pub mod Speed
 pub mod Calls
 pub mod Whole
 pub mod Run
+pub mod Demand1
 pub mod Compare
 pub mod Examples
