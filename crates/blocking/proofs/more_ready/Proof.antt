@@ -1,0 +1,24 @@
+use Rattle.registers.proofs.Steps.{here, call-step, call-stops, call-last}
+use borrow.Author.Needs.{needs}
+use Rattle.blocking.proofs.more_ready.Statement.{statement}
+use Rattle.blocking.proofs.more_ready.Tie as tie
+
+returns : tie.Need-returns
+returns c s rx = call-stops (c .before .before .before .modify-cr1 .ensures _ _) _ here (c .match .keys2)
+
+returns-2 : tie.Need-returns-2
+returns-2 c s rx =
+    let a = c .before .before .before .before .before in
+    call-last (call-step (a .before .before .before .before .modify-cr1 .ensures _ _) _ here (a .a .given .1)) (c .before .before .read-status .ensures _ _)
+
+pub more-ready-spec : {M : Type 1} → statement M
+more-ready-spec =
+    tie.close
+    (tie.spec
+    (λ c κs. search needs)
+    (λ c. search needs)
+    (λ c. search needs)
+    returns
+    (λ c κs. search needs)
+    (λ c. search needs)
+    returns-2)

@@ -1,0 +1,31 @@
+use mathlib.Core.List.{[]}
+use Rattle.registers.proofs.Steps.{here, call-step, call-stops, call-last, refines-fewer}
+use borrow.Author.Needs.{needs}
+use Rattle.blocking.proofs.second_last.Statement.{statement}
+use Rattle.blocking.proofs.second_last.Tie as tie
+
+returns : tie.Need-returns
+returns c s = call-stops (c .before .before .before .send-stop .ensures _ _) _ here (c .match .keys2)
+
+read-data-requires : tie.Need-read-data-requires
+read-data-requires c κs =
+    let a = c .before .before .before in
+    refines-fewer (λ s. a .before .before .before .before .send-stop .ensures s []) (a .a .given .1) (a .before .before .before .before .before .before .before .before .before .pre)
+
+returns-2 : tie.Need-returns-2
+returns-2 c s =
+    let a = c .before .before .before .before .before .before .before .before in
+    call-last (call-step (a .before .before .before .before .send-stop .ensures _ _) _ here (a .a .given .1)) (c .before .before .before .before .read-data .ensures _)
+
+pub second-last-spec : {M : Type 1} → statement M
+second-last-spec =
+    tie.close
+    (tie.spec
+    (λ c κs. search needs)
+    (λ c. search needs)
+    (λ c. search needs)
+    returns
+    read-data-requires
+    (λ c. search needs)
+    (λ c. search needs)
+    returns-2)

@@ -1,0 +1,48 @@
+use mathlib.Core.List.{[]}
+use Rattle.registers.proofs.Steps.{here, call-step, call-stops, call-last, refines-fewer}
+use borrow.Author.Needs.{needs}
+use Rattle.blocking.proofs.two_bytes.Statement.{statement}
+use Rattle.blocking.proofs.two_bytes.Tie as tie
+
+returns : tie.Need-returns
+returns c s = call-stops (c .before .before .before .send-stop .ensures _ _) _ here (c .match .keys2)
+
+read-data-requires : tie.Need-read-data-requires
+read-data-requires c κs =
+    let a = c .before .before .before in
+    refines-fewer (λ s. a .before .before .before .before .send-stop .ensures s []) (a .a .given .1) (a .before .before .before .before .before .before .before .before .before .pre)
+
+returns-2 : tie.Need-returns-2
+returns-2 c s =
+    let a = c .before .before .before .before .before .before .before .before .before in
+    call-stops (c .before .before .before .before .before .read-data .ensures _) _ (call-step (a .before .before .before .before .send-stop .ensures _ _) _ here (a .a .given .1)) (c .match2 .keys2)
+
+read-data-requires-2 : tie.Need-read-data-requires-2
+read-data-requires-2 c κs =
+    let b = c .before .before .before in
+    let a = b .before .before .before .before .before .before .before .before .before .before in
+    refines-fewer (b .before .before .before .before .before .before .read-data .ensures) (b .b .given .1) (refines-fewer (λ s. a .before .before .before .before .send-stop .ensures s []) (a .a .given .1) (a .before .before .before .before .before .before .before .before .before .pre))
+
+returns-3 : tie.Need-returns-3
+returns-3 c s =
+    let b = c .before .before .before .before .before .before .before .before in
+    let a = b .before .before .before .before .before .before .before .before .before .before in
+    call-last (call-step (b .before .before .before .before .before .before .read-data .ensures _) _ (call-step (a .before .before .before .before .send-stop .ensures _ _) _ here (a .a .given .1)) (b .b .given .1)) (c .before .before .before .before .read-data2 .ensures _)
+
+pub two-bytes-spec : {M : Type 1} → statement M
+two-bytes-spec =
+    tie.close
+    (tie.spec
+    (λ c κs. search needs)
+    (λ c. search needs)
+    (λ c. search needs)
+    returns
+    read-data-requires
+    (λ c. search needs)
+    (λ c. search needs)
+    (λ c. search needs)
+    returns-2
+    read-data-requires-2
+    (λ c. search needs)
+    (λ c. search needs)
+    returns-3)
