@@ -176,9 +176,14 @@ module _ (P G : ℕ → ℕ) (w : Weights P G) where
   unfolding polling-steps reads-together total
   polling-total early a previous [] = omega arith
   polling-total early a previous (o ∷ os) =
-      omega (arith, total-append (turn early a previous o ++ transfer (is-last os) o) (polling-steps early a (direction o) os),
-      total-append (turn early a previous o) (transfer (is-last os) o), turn-none early a previous o, transfer-total (is-last os) o,
-      polling-total early a (direction o) os)
+      omega (
+        arith,
+        total-append (turn early a previous o ++ transfer (is-last os) o) (polling-steps early a (direction o) os),
+        total-append (turn early a previous o) (transfer (is-last os) o),
+        turn-none early a previous o,
+        transfer-total (is-last os) o,
+        polling-total early a (direction o) os,
+      )
 
   -- Blocking
 
@@ -225,8 +230,12 @@ module _ (P G : ℕ → ℕ) (w : Weights P G) where
   unfolding blocking-steps reads-together
   blocking-total s a previous [] = close-none s previous
   blocking-total s a previous (o ∷ os) =
-      omega (arith, total-append (blocking-operation s a o) (blocking-steps s a (done-last previous o) os),
-      blocking-operation-total s a o, blocking-total s a (done-last previous o) os)
+      omega (
+        arith,
+        total-append (blocking-operation s a o) (blocking-steps s a (done-last previous o) os),
+        blocking-operation-total s a o,
+        blocking-total s a (done-last previous o) os,
+      )
 
   -- a call plans what its operations are to receive
   pub steps-total : (s : Setup) (c : Call) → total (steps-of s c) ≡ reads-together (c .operations)

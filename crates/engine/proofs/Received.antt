@@ -63,12 +63,20 @@ exec-received s (suc n) (i ∷ p) rs = go (access i) refl rs (exec-received s n)
         → length (received-of (perform a (λ v. next s i v ++ p) rs (exec s n) .log)) ≤ planned (i ∷ p)
     go (Access.halt e) h rs ih = omega arith
     go (Access.write r v) h rs ih =
-        omega (arith, received-entry (record { code = r; value = v }) (exec s n (next s i v ++ p) rs .log),
-        ih (next s i v ++ p) rs, rw h at (after-access D D data-weights s i p v))
+        omega (
+          arith,
+          received-entry (record { code = r; value = v }) (exec s n (next s i v ++ p) rs .log),
+          ih (next s i v ++ p) rs,
+          rw h at (after-access D D data-weights s i p v),
+        )
     go (Access.read r) h [] ih = omega arith
     go (Access.read r) h (w ∷ rs) ih =
-        omega (arith, received-entry (record { code = r; value = cut r w }) (exec s n (next s i (cut r w) ++ p) rs .log),
-        ih (next s i (cut r w) ++ p) rs, rw h at (after-access D D data-weights s i p (cut r w)))
+        omega (
+          arith,
+          received-entry (record { code = r; value = cut r w }) (exec s n (next s i (cut r w) ++ p) rs .log),
+          ih (next s i (cut r w) ++ p) rs,
+          rw h at (after-access D D data-weights s i p (cut r w)),
+        )
 
 received-append : (a b : List Entry) → length (received-of (a ++ b)) ≡ length (received-of a) + length (received-of b)
 unfolding received-of
@@ -118,8 +126,12 @@ module _ (l : List ℕ) (rx : ℕ) (ok : refusal l rx ≡ 0) where
   unfolding entries together calls-received
   calls-planned s k zero h = refl
   calls-planned s k (suc n) h =
-      omega (arith, steps-total D D data-weights s (call-of l (call-at l k)),
-      entries-reads (call-at l k .first) (call-at l k .count) (call-within l rx ok k (omega arith)), calls-planned s (k + 1) n (omega arith))
+      omega (
+        arith,
+        steps-total D D data-weights s (call-of l (call-at l k)),
+        entries-reads (call-at l k .first) (call-at l k .count) (call-within l rx ok k (omega arith)),
+        calls-planned s (k + 1) n (omega arith),
+      )
 
   -- the received buffer has room for all that a run receives
   pub received-fits : (s : Setup) (room : ℕ) (rs : List ℕ)

@@ -64,9 +64,9 @@ accepted-meant l rs rx lg rx′ lg′ k o ok e =
         → Meant (record { answer = number (r .ending); calls = r .calls; log = r .log }) rx lg rx′ lg′ (ended-counts o k)
     go r fits room e =
         let f : at rs lg′ rx′ (bus-of o)
-            ≡ at rs (sets lg 0 (record-of (r .log))) (sets rx 0 (received-of (r .log)))
-            (record { used = reads (r .log); made = length (r .log); got = length (received-of (r .log)) })
-            = ap (λ (z : Final). z .state) e ∙ replay-is (r .log) rs lg rx nothing-yet ∙ simp zero-add in
+        ≡ at rs (sets lg 0 (record-of (r .log))) (sets rx 0 (received-of (r .log)))
+        (record { used = reads (r .log); made = length (r .log); got = length (received-of (r .log)) })
+        = ap (λ (z : Final). z .state) e ∙ replay-is (r .log) rs lg rx nothing-yet ∙ simp zero-add in
         let b : bus-of o ≡ record { used = reads (r .log); made = length (r .log); got = length (received-of (r .log)) } = cc in
         let n = ap (λ (z : Final). number (z .ending)) e in
         let c = ap (λ (z : Final). z .calls) e in

@@ -1,7 +1,7 @@
 -- What a run of a list comes to: list bytes, readings and buffer lengths to answer, counts, record and received bytes.
 use Prim.Native.Nat.{ℕ}
 use mathlib.Core.Path.{_≡_}
-use mathlib.Core.List.{List, [], _++_, map}
+use mathlib.Core.List.{List, [], _∷_, _++_, map}
 use mathlib.Core.Bool.{Bool, true, false}
 use lib.ListN.{length, drop}
 use lib.Dec.{eqb}
@@ -74,3 +74,9 @@ ended-counts o calls =
       made = bus-of o .made;
       got = bus-of o .got;
     }
+
+-- the same for hosts, with the answer and the counts in an array
+pub record HostMeant (r : Result) (rx lg rx′ lg′ cs : List ℕ) : Type 0 where
+  pub counts : cs ≡ r .answer ∷ r .calls ∷ reads (r .log) ∷ length (r .log) ∷ length (received-of (r .log)) ∷ []
+  pub received : rx′ ≡ filled rx (received-of (r .log))
+  pub recorded : lg′ ≡ filled lg (record-of (r .log))

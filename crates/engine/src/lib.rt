@@ -1,8 +1,11 @@
 // The engine as hosts see it: the run of a bus list, and every exported function.
-use buslist::{CallEntry, OperationEntry};
+use buslist::CallEntry;
+use buslist::OperationEntry;
 use i2c::Previous;
-use registers::{Bus, Outcome};
-use units::{Hertz, Setup};
+use registers::Bus;
+use registers::Outcome;
+use units::Hertz;
+use units::Setup;
 ghost use mathlib.Core.Path.{_≡_};
 ghost use mathlib.Core.List.{List, map};
 ghost use Prim.Native.Nat.{ℕ, _<_, _≤_};
@@ -16,7 +19,7 @@ ghost use Rattle.i2c.specs.Polling.{operation-steps as polling-operation};
 ghost use Rattle.blocking.specs.Blocking.{operation-steps as blocking-operation};
 ghost use Rattle.engine.specs.Calls.{engine-of, early, steps-of, operation-steps, moved, end-steps, empty};
 ghost use Rattle.engine.specs.Whole.{Ends, bus-of};
-ghost use Rattle.engine.specs.Run.{run, Meant, ended-counts};
+ghost use Rattle.engine.specs.Run.{run, Meant, HostMeant, ended-counts};
 ghost use Rattle.engine.specs.Speed.{speed-out, speed-cr2, speed-trise, speed-ccr};
 
 // How a run ended: its answer, calls ended well, readings used, accesses made, bytes received.
@@ -108,9 +111,27 @@ fn polling_operation(
 {
     let addr = call.address as u32;
     if o.direction == 0 {
-        return i2c::write_operation(readings, log, bus, addr, previous, last, buslist::bytes_of(list, o));
+        return i2c::write_operation(
+            readings,
+            log,
+            bus,
+            addr,
+            previous,
+            last,
+            buslist::bytes_of(list, o),
+        );
     }
-    i2c::read_operation(readings, log, rx, bus, addr, previous, last, early(call.kind), o.length as usize)
+    i2c::read_operation(
+        readings,
+        log,
+        rx,
+        bus,
+        addr,
+        previous,
+        last,
+        early(call.kind),
+        o.length as usize,
+    )
 }
 
 // One operation of a blocking call.
@@ -129,7 +150,14 @@ fn blocking_operation(
 {
     let addr = call.address as u32;
     if o.direction == 0 {
-        return blocking::write_without_stop(readings, log, bus, setup, addr, buslist::bytes_of(list, o));
+        return blocking::write_without_stop(
+            readings,
+            log,
+            bus,
+            setup,
+            addr,
+            buslist::bytes_of(list, o),
+        );
     }
     blocking::read(readings, log, rx, bus, setup, addr, o.length as usize)
 }
@@ -183,7 +211,14 @@ fn moved(list: &[u8], call: CallEntry, o: OperationEntry, previous: Previous) ->
 }
 
 // The end of a call: a blocking one closes after a write.
-fn end_call(readings: &[u32], log: &mut [u32], bus: Bus, setup: Setup, call: CallEntry, previous: Previous) -> Outcome
+fn end_call(
+    readings: &[u32],
+    log: &mut [u32],
+    bus: Bus,
+    setup: Setup,
+    call: CallEntry,
+    previous: Previous,
+) -> Outcome
     ensures { λ r. ⌜ ((rx : List ℕ) → Refines setup (end-steps setup (engine-of (call .kind)) previous) (at (now (readings .entry)) (now (log .entry)) rx bus) (now (readings .entry)) (now (log .exit)) rx r) ⌝ }
 {
     if is_polling(call.kind) {
@@ -215,7 +250,18 @@ fn run_calls(
         let mut previous = Previous::Nothing;
         while j < end {
             let o = buslist::operation_at(list, j);
-            outcome = operation(list, readings, rx, log, bus, setup, call, o, previous, j + 1 == end);
+            outcome = operation(
+                list,
+                readings,
+                rx,
+                log,
+                bus,
+                setup,
+                call,
+                o,
+                previous,
+                j + 1 == end,
+            );
             let Outcome::Well(next) = outcome else {
                 break 'calls;
             };
@@ -296,4 +342,23 @@ pub fn run(list: &[u8], readings: &[u32], rx: &mut [u8], log: &mut [u32]) -> Cou
         };
     }
     run_accepted(list, readings, rx, log)
+}
+
+// The run for hosts: the answer and the four counts, in the order returned, go to `counts`.
+#[no_mangle]
+pub extern "C" fn bus_run(
+    list: &[u8],
+    readings: &[u32],
+    rx: &mut [u8],
+    log: &mut [u32],
+    counts: &mut [u64; 5],
+)
+    ensures { λ _. ⌜ HostMeant (run (now (list .entry)) (now (readings .entry)) (length (now (rx .entry))) (length (now (log .entry)))) (now (rx .entry)) (now (log .entry)) (now (rx .exit)) (now (log .exit)) (now (counts .exit)) ⌝ }
+{
+    let c = run(list, readings, rx, log);
+    counts[0] = c.answer as u64;
+    counts[1] = c.calls as u64;
+    counts[2] = c.used as u64;
+    counts[3] = c.made as u64;
+    counts[4] = c.got as u64;
 }
