@@ -6,7 +6,7 @@ use native.Mathlib.Nat.{add-zero, zero-add, add-assoc}
 use mathlib.Core.Bool.{Bool, true, false}
 use mathlib.Core.Path.{_≡_, refl, sym, ap, _∙_}
 use mathlib.Core.List.{List, [], _∷_, _++_, map, append-nil}
-use lib.Dec.{eqb}
+use lib.Dec.{eqb, leb}
 use borrow.Author.Tests.{eq-eqb, ne-eqb}
 use Rattle.units.specs.declared.Setup.{Setup}
 use Rattle.buslist.specs.Meaning.{Operation}
@@ -23,7 +23,7 @@ use Rattle.registers.proofs.Steps.{NotWell, not-first}
 use Rattle.i2c.specs.declared.Previous.{Previous}
 use Rattle.i2c.specs.Polling.{polling-steps, is-last}
 use Rattle.blocking.specs.Blocking.{blocking-steps}
-use Rattle.engine.specs.Calls.{Engine, operations-steps, operation-steps, moved, end-steps}
+use Rattle.engine.specs.Calls.{Engine, engine-of, operations-steps, operation-steps, moved, end-steps}
 use Rattle.engine.specs.Whole.{Final, more-calls, after-calls, calls-run, bus-of, final, Ends, Left}
 
 -- no call is done yet
@@ -56,6 +56,15 @@ pub calls-end : {s : Setup} {cs : List (List Step)} {st : State} {k : ℕ} {rs l
     → Left s cs st k [] (at rs lg rx b) → Ends s cs st rs lg rx k (Outcome.Well b)
 unfolding calls-run
 calls-end x = record { is = x .is ∙ rw add-zero }
+
+-- the engine of a kind, by its test
+pub is-polling-kind : (kind : ℕ) → leb kind 3 ≡ true → engine-of kind ≡ Engine.polling
+unfolding engine-of
+is-polling-kind kind t = rw t
+
+pub is-blocking-kind : (kind : ℕ) → leb kind 3 ≡ false → engine-of kind ≡ Engine.blocking
+unfolding engine-of
+is-blocking-kind kind t = rw t
 
 -- a call, one operation at a time
 module _ (s : Setup) (early : Bool) (a : ℕ) (previous : Previous) where

@@ -4,3 +4,12 @@ pub mod Received
 pub mod Result
 pub mod CallLaws
 pub mod Demand1
+pub mod Shape
+pub mod Same
+pub mod Trace
+pub mod Apart
+pub mod Whole
+pub mod Reduced
+pub mod Listed
+pub mod Demand3
+pub mod Witness

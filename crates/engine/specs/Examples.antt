@@ -6,6 +6,21 @@ use Rattle.buslist.specs.Bytes.{half, word}
 use Rattle.buslist.specs.Table.{settings-of, call-at, operation-at, entries}
 use Rattle.buslist.specs.Form.{header-right, written, operation-right, operations-right, has-directions, kind-right, call-right, calls-right, of-the-form}
 use Rattle.buslist.specs.Refusal.{any, over-limit, timeout-out, received, all-received, causes, first-cause, refusal}
+use Rattle.units.specs.declared.Setup.{Setup}
+use Rattle.units.specs.Setup.{setup-of}
+use Rattle.buslist.specs.Meaning.{Operation, write, read, Call, operation-of}
+use Rattle.registers.specs.declared.Source.{Source}
+use Rattle.registers.specs.declared.BusError.{BusError}
+use Rattle.registers.specs.declared.Flagged.{Flagged}
+use Rattle.registers.specs.declared.Awaited.{Awaited}
+use Rattle.registers.specs.Word.{has, with-bit, without-bit}
+use Rattle.registers.specs.Access.{cut, clear-word, record-of, reads, received-of, number}
+use Rattle.registers.specs.Machine.{Step, Handler, check-word, after-check, poll-word, since, next, handle, exec, exec-on, exec-full, perform, no-room, after-call, after-bring-up, whole-run, run as machine-run}
+use Rattle.i2c.specs.Polling.{write-bytes, last-read, turn, turn-write, turn-read, transfer, polling-steps}
+use Rattle.engine.specs.declared.Counts.{Counts}
+use Rattle.engine.specs.Calls.{engine-of, early, operations-steps, steps-of}
+use Rattle.engine.specs.Run.{Result, run, result, accepted-run, counts-of}
+use Rattle.engine.specs.Compare.{gather, joined, reduced-operations, reduced}
 use Rattle.engine.specs.Speed.{speed-cr2, speed-trise, speed-ccr}
 
 -- 16 and 32 bits, little-endian
@@ -39,7 +54,26 @@ at-frequency frequency = write-list (settings 36000000 0 0 frequency 0 0 0 0)
 pub with-timeouts : ℕ → ℕ → ℕ → List ℕ
 with-timeouts start address «data» = write-list (settings 36000000 72000000 0 100000 start 0 address «data»)
 
+-- the record words of the run that document 01 prints: code and value of each access
+pub printed : List ℕ
+printed =
+    12 ∷ 0x24 ∷ 14 ∷ 0x25 ∷ 13 ∷ 0xb4 ∷ 3 ∷ 0 ∷ 11 ∷ 1 ∷ 3 ∷ 1 ∷ 15 ∷ 0 ∷ 3 ∷ 1 ∷ 11 ∷ 0x101 ∷ 1 ∷ 1 ∷ 1 ∷ 1 ∷ 2 ∷ 3 ∷ 16 ∷ 0xa0
+    ∷ 1 ∷ 2 ∷ 2 ∷ 7 ∷ 1 ∷ 0x80 ∷ 16 ∷ 0x2a ∷ 1 ∷ 0x84 ∷ 3 ∷ 1 ∷ 11 ∷ 0x201 ∷ 3 ∷ 1 ∷ []
+
+-- its run: 36 MHz, Standard 100,000, other settings 0, with these readings and the buffers of `busrun`
+pub first-run : Result
+unfolding at-frequency write-list settings words halves
+first-run = run (at-frequency 100000) (0 ∷ 1 ∷ 1 ∷ 1 ∷ 1 ∷ 3 ∷ 2 ∷ 7 ∷ 0x80 ∷ 0x84 ∷ 1 ∷ 1 ∷ []) 4096 16000
+
+-- a call of these operations to 50 hex
+abbrev pub call-to : ℕ → List Operation → Call
+call-to kind os = record { kind = kind; address = 0x50; operations = os }
+
 pub record Table : Type 0 where
+  -- the run printed in document 01: record, received bytes, and all five numbers
+  pub p1-record : record-of (first-run .log) ≡ printed
+  pub p1-received : received-of (first-run .log) ≡ []
+  pub p1-counts : counts-of first-run ≡ record { answer = 0; calls = 1; used = 12; made = 21; got = 0 }
   -- 2:1, 36 MHz, 400,000: CCR 801E hex, TRISE 11
   pub p2 : (speed-ccr 36000000 1 400000 ≡ 0x801e) × (speed-trise 36000000 1 400000 ≡ 11)
   -- 16:9: C003 hex
@@ -55,16 +89,32 @@ pub record Table : Type 0 where
   pub p7-start : refusal (with-timeouts 59652324 59652323 59652323) 0 ≡ 23
   pub p7-address : refusal (with-timeouts 59652323 59652324 59652323) 0 ≡ 23
   pub p7-data : refusal (with-timeouts 59652323 59652323 59652324) 0 ≡ 23
+  -- start 4,294,967,290, now 4: limit 10 out, 11 not
+  pub p8-out : (s : Setup) (w : Awaited) → next s (Step.late w 10 Handler.ends 4294967290) 4 ≡ Step.fail BusError.Timeout ∷ []
+  pub p8-in : (s : Setup) (w : Awaited) → next s (Step.late w 11 Handler.ends 4294967290) 4 ≡ Step.poll w 11 Handler.ends 4294967290 ∷ []
+  -- SR1 0C00 hex: polling Overrun, blocking NoAcknowledge
+  pub p9-polling : (n : Source) → check-word n 0x0c00 ≡ Flagged.Error BusError.Overrun
+  pub p9-blocking : (n : Source) → poll-word n 0x0c00 ≡ Flagged.Error (BusError.NoAcknowledge n)
+  -- writes 1 and 2 reduce as one write of both
+  pub p10 : reduced (call-to 3 (write (1 ∷ []) ∷ write (2 ∷ []) ∷ [])) ≡ reduced (call-to 0 (write (1 ∷ 2 ∷ []) ∷ []))
 
 -- names all that `refusal` computes by, so that `unfolding computed` opens it
 computed : List ℕ → ℕ → ℕ
 unfolding refusal causes first-cause over-limit timeout-out any received all-received of-the-form header-right written operation-right operations-right has-directions kind-right call-right calls-right settings-of call-at operation-at entries half word at-frequency with-timeouts write-list settings
 computed l rx = refusal l rx
 
+-- names all that a run computes by
+ran : List ℕ → List ℕ → ℕ → ℕ → Result
+unfolding run result accepted-run counts-of setup-of steps-of operations-steps engine-of early operation-of has with-bit without-bit cut clear-word record-of reads received-of number check-word after-check next exec exec-on exec-full perform no-room after-call after-bring-up machine-run whole-run handle write-bytes last-read turn turn-write turn-read transfer polling-steps
+ran l rs rx words = run l rs rx words
+
 pub table : Table
-unfolding computed
+unfolding computed ran first-run printed since check-word poll-word reduced reduced-operations joined gather engine-of
 table =
     record {
+      p1-record = refl;
+      p1-received = refl;
+      p1-counts = refl;
       p2 = (refl, refl);
       p3 = refl;
       p4 = refl;
@@ -74,4 +124,9 @@ table =
       p7-start = refl;
       p7-address = refl;
       p7-data = refl;
+      p8-out = λ s w. refl;
+      p8-in = λ s w. refl;
+      p9-polling = λ n. refl;
+      p9-blocking = λ n. refl;
+      p10 = refl;
     }

@@ -15,7 +15,7 @@ ghost use Rattle.buslist.specs.Refusal.{refusal};
 ghost use Rattle.buslist.specs.Meaning.{operation-of, calls-of};
 ghost use Rattle.registers.specs.State.{at};
 ghost use Rattle.registers.specs.Contract.{Refines};
-ghost use Rattle.i2c.specs.Polling.{operation-steps as polling-operation};
+ghost use Rattle.i2c.specs.Polling.{direction, operation-steps as polling-operation};
 ghost use Rattle.blocking.specs.Blocking.{operation-steps as blocking-operation};
 ghost use Rattle.engine.specs.Calls.{engine-of, early, steps-of, operation-steps, moved, end-steps, empty};
 ghost use Rattle.engine.specs.Whole.{Ends, bus-of};
@@ -194,20 +194,27 @@ fn is_empty(list: &[u8], o: OperationEntry) -> bool
     o.length == 0
 }
 
+// The direction of an operation, for the one after it.
+fn direction(o: OperationEntry) -> Previous
+    ensures { λ r. ⌜ ((l : List ℕ) → r ≡ direction (operation-of l o)) ⌝ }
+{
+    if o.direction == 0 {
+        return Previous::Write;
+    }
+    Previous::Read
+}
+
 // The operation before, for the one after o. A blocking call passes over an empty one.
 fn moved(list: &[u8], call: CallEntry, o: OperationEntry, previous: Previous) -> Previous
     ensures { λ r. ⌜ r ≡ moved (engine-of (call .kind)) previous (operation-of (now (list .entry)) o) ⌝ }
 {
-    if !is_polling(call.kind) {
-        if is_empty(list, o) {
-            return previous;
-        }
+    if is_polling(call.kind) {
+        return direction(o);
     }
-    if o.direction == 0 {
-        Previous::Write
-    } else {
-        Previous::Read
+    if is_empty(list, o) {
+        return previous;
     }
+    direction(o)
 }
 
 // The end of a call: a blocking one closes after a write.

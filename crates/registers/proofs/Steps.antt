@@ -186,7 +186,7 @@ read-counts {c} {rs} {lg} {rx} {b} {rs′} {lg′} {rx′} {r} {v} {b′} x t e 
           got = ap (λ (z : Bus). z .got) e;
         }
 
-abbrev no-setup : Setup
+abbrev pub no-setup : Setup
 no-setup =
     record {
       cr2 = 0;

@@ -1,0 +1,233 @@
+-- The steps of two reduced calls told apart by a common trace.
+-- Assumes nothing.
+use Prim.Native.Nat.{ℕ, zero, suc}
+use native.Mathlib.Omega.{arith}
+use mathlib.Core.Bool.{Bool, true, false}
+use mathlib.Core.Path.{_≡_, refl, ap, ap₂, sym}
+use mathlib.Core.List.{List, [], _∷_, _++_, append-assoc}
+use Rattle.units.specs.declared.Setup.{Setup}
+use Rattle.buslist.specs.Meaning.{Operation, write, read}
+use Rattle.registers.specs.Word.{BTF}
+use Rattle.registers.specs.Access.{SR1, CR1, CYC, wSR1, wDR}
+use Rattle.registers.specs.Machine.{Step, start}
+use Rattle.i2c.specs.declared.Previous.{Previous}
+use Rattle.i2c.specs.Polling.{address-byte, prepare-write, prepare-read, write-bytes, read-bytes, last-read, turn-write, turn-read, turn, transfer, direction, is-last, polling-steps}
+use Rattle.blocking.specs.Blocking.{send-start-and-wait, send-addr-and-wait, write-wait, later-bytes, write-bytes-and-wait, write-without-stop, close, read-wait, first-bytes, read-one, read-two, read-arm, read-steps, close-after, blocking-steps}
+use Rattle.engine.specs.Compare.{ends-empty}
+use Rattle.engine.proofs.Shape.{Full}
+use Rattle.engine.proofs.Trace.{Both, ends, stops, first, apart, flip, prefix, skip, puts, modifies, modify-or-wait, check-or-flag, waits}
+
+-- operations that each turn the direction, after this one before them
+abbrev pub Turns : Previous → List Operation → Type 0
+Turns previous [] = Unit {0}
+Turns Previous.Nothing (o ∷ os) = Turns (direction o) os
+Turns Previous.Write (write bs ∷ os) = ⊥
+Turns Previous.Write (read n ∷ os) = Turns Previous.Read os
+Turns Previous.Read (write bs ∷ os) = Turns Previous.Write os
+Turns Previous.Read (read n ∷ os) = ⊥
+
+module _ {s : Setup} {P : Type 0} {p q : List Step} where
+  -- bytes sent, where a CR1 read follows
+  same-bytes : (bs cs : List ℕ) → first p ≡ CR1 → first q ≡ CR1 → (bs ≡ cs → Both s P p q) → Both s P (write-bytes bs ++ p) (write-bytes cs ++ q)
+  unfolding write-bytes first
+  same-bytes [] [] hp hq k = k refl
+  same-bytes [] (c ∷ cs) hp hq k = apart (omega arith)
+  same-bytes (b ∷ bs) [] hp hq k = apart (omega arith)
+  same-bytes (b ∷ bs) (c ∷ cs) hp hq k = skip (puts (λ e. skip (same-bytes bs cs hp hq (λ es. k (ap₂ _∷_ e es)))))
+
+  -- bytes received, where a CR1 read follows
+  same-reads : (m n : ℕ) → first p ≡ CR1 → first q ≡ CR1 → (m ≡ n → Both s P p q) → Both s P (read-bytes m ++ p) (read-bytes n ++ q)
+  unfolding read-bytes first
+  same-reads zero zero hp hq k = k refl
+  same-reads zero (suc n) hp hq k = apart (omega arith)
+  same-reads (suc m) zero hp hq k = apart (omega arith)
+  same-reads (suc m) (suc n) hp hq k = skip (skip (same-reads m n hp hq (λ e. k (ap suc e))))
+
+-- an operation once prepared, those after it, and what follows
+abbrev opened : ℕ → Operation → List Operation → List Step → List Step
+opened a o os p = transfer (is-last os) o ++ (polling-steps false a (direction o) os ++ p)
+
+module _ {s : Setup} {P : Type 0} {p q : List Step} (a : ℕ) where
+  mutual
+    unfolding polling-steps transfer last-read turn turn-read turn-write first ends-empty
+
+    -- two writes, prepared, and what follows each
+    writes : (bs cs : List ℕ) (os ps : List Operation) → Turns Previous.Write os → Turns Previous.Write ps
+        → Full (write bs ∷ os) → Full (write cs ∷ ps)
+        → (_≡_ {A = List Operation} (write bs ∷ os) (write cs ∷ ps) → Both s P p q)
+        → Both s P (opened a (write bs) os p) (opened a (write cs) ps q)
+    writes bs cs [] [] t u f g k = simp append-assoc (same-bytes bs cs refl refl (λ e. skip (skip (k (ap (λ x. write x ∷ []) e)))))
+    writes bs cs [] (read n ∷ ps) t u f g k = simp append-assoc (same-bytes bs cs refl refl (λ e. modify-or-wait))
+    writes bs cs (read m ∷ os) [] t u f g k = simp append-assoc (same-bytes bs cs refl refl (λ e. flip modify-or-wait))
+    writes bs cs (read m ∷ os) (read n ∷ ps) t u f g k =
+        simp append-assoc (same-bytes bs cs refl refl (λ e. prefix (prepare-read a) (reads m n os ps t u f g (λ es. k (ap₂ (λ x xs. write x ∷ xs) e es)))))
+
+    -- two reads, prepared, and what follows each
+    reads : (m n : ℕ) (os ps : List Operation) → Turns Previous.Read os → Turns Previous.Read ps
+        → Full (read m ∷ os) → Full (read n ∷ ps)
+        → (_≡_ {A = List Operation} (read m ∷ os) (read n ∷ ps) → Both s P p q)
+        → Both s P (opened a (read m) os p) (opened a (read n) ps q)
+    reads (suc m) (suc n) [] [] t u f g k =
+        simp append-assoc (same-reads m n refl refl (λ e. skip (skip (skip (skip (k (ap (λ x. read (suc x) ∷ []) e)))))))
+    reads (suc m) n [] (write cs ∷ ps) t u f g k = simp append-assoc (same-reads m n refl refl (λ e. modify-or-wait))
+    reads m (suc n) (write bs ∷ os) [] t u f g k = simp append-assoc (same-reads m n refl refl (λ e. flip modify-or-wait))
+    reads m n (write bs ∷ os) (write cs ∷ ps) t u f g k =
+        simp append-assoc (same-reads m n refl refl (λ e. prefix (prepare-write a) (writes bs cs os ps t u f g (λ es. k (ap₂ (λ x xs. read x ∷ xs) e es)))))
+
+-- what reduced operations of a polling call are: some, each turning the direction, the last no empty read
+abbrev pub PollingForm : List Operation → Type 0
+PollingForm [] = ⊥
+PollingForm (o ∷ os) = Turns (direction o) os × Full (o ∷ os)
+
+module _ {s : Setup} {P : Type 0} {p q : List Step} where
+  -- two polling calls with a common trace have one address and the same reduced operations
+  pub same-polling : (a c : ℕ) (os ps : List Operation) → PollingForm os → PollingForm ps → (a ≡ c → os ≡ ps → Both s P p q)
+      → Both s P (polling-steps false a Previous.Nothing os ++ p) (polling-steps false c Previous.Nothing ps ++ q)
+  unfolding polling-steps turn turn-write turn-read
+  same-polling a c (write bs ∷ os) (write cs ∷ ps) f g k =
+      simp append-assoc (skip (skip (skip (skip (skip (puts (λ e. let same : a ≡ c = omega arith in
+      skip (skip (rw same (writes c bs cs os ps (f .0) (g .0) (f .1) (g .1) (k same)))))))))))
+  same-polling a c (write bs ∷ os) (read n ∷ ps) f g k = skip (skip (modifies check-or-flag))
+  same-polling a c (read m ∷ os) (write cs ∷ ps) f g k = skip (skip (modifies (flip check-or-flag)))
+  same-polling a c (read m ∷ os) (read n ∷ ps) f g k =
+      simp append-assoc (skip (skip (skip (skip (skip (puts (λ e. let same : a ≡ c = omega arith in
+      skip (skip (rw same (reads c m n os ps (f .0) (g .0) (f .1) (g .1) (k same)))))))))))
+
+-- Blocking
+
+module _ {s : Setup} {P : Type 0} {p q : List Step} where
+  -- later bytes, where neither a DR write nor a counter read follows the last wait
+  same-later : (bs cs : List ℕ) → (first p ≡ wDR → ⊥) → (first q ≡ wDR → ⊥) → (first p ≡ CYC → ⊥) → (first q ≡ CYC → ⊥)
+      → (bs ≡ cs → Both s P p q) → Both s P (later-bytes s bs ++ write-wait s BTF ∷ p) (later-bytes s cs ++ write-wait s BTF ∷ q)
+  unfolding later-bytes first
+  same-later [] [] hp hq jp jq k = skip (k refl)
+  same-later [] (c ∷ cs) hp hq jp jq k = waits stops hp jp (omega arith)
+  same-later (b ∷ bs) [] hp hq jp jq k = waits stops (λ e. hq (sym e)) (omega arith) jq
+  same-later (b ∷ bs) (c ∷ cs) hp hq jp jq k = skip (puts (λ e. same-later bs cs hp hq jp jq (λ es. k (ap₂ _∷_ e es))))
+
+  -- first bytes received, where a CR1 read follows the wait for BTF
+  same-firsts : (m n : ℕ) → first p ≡ CR1 → first q ≡ CR1 → (m ≡ n → Both s P p q)
+      → Both s P (first-bytes s m ++ read-wait s BTF ∷ p) (first-bytes s n ++ read-wait s BTF ∷ q)
+  unfolding first-bytes first
+  same-firsts zero zero hp hq k = skip (k refl)
+  same-firsts zero (suc n) hp hq k = waits ends (omega arith) (omega arith) (omega arith)
+  same-firsts (suc m) zero hp hq k = waits ends (omega arith) (omega arith) (omega arith)
+  same-firsts (suc m) (suc n) hp hq k = skip (skip (same-firsts m n hp hq (λ e. k (ap suc e))))
+
+-- the first bytes, or the wait after them, begin with a counter read
+first-counter : (s : Setup) (n : ℕ) (p : List Step) → first (first-bytes s n ++ read-wait s BTF ∷ p) ≡ CYC
+unfolding first-bytes first
+first-counter s zero p = refl
+first-counter s (suc n) p = refl
+
+module _ {s : Setup} {P : Type 0} {p q : List Step} where
+  -- the arms of a read
+  same-arms : (m n : ℕ) → (m ≡ n → Both s P p q) → Both s P (read-arm s (suc m) ++ p) (read-arm s (suc n) ++ q)
+  unfolding read-arm first
+  same-arms zero zero k = prefix (read-one s) (k refl)
+  same-arms zero (suc zero) k = modifies (skip (skip (modifies (waits ends (omega arith) (omega arith) (omega arith)))))
+  same-arms zero (suc (suc n)) k = simp append-assoc (modifies (skip (skip (apart (simp first-counter (omega arith))))))
+  same-arms (suc zero) zero k = modifies (skip (skip (modifies (waits ends (omega arith) (omega arith) (omega arith)))))
+  same-arms (suc zero) (suc zero) k = prefix (read-two s) (k refl)
+  same-arms (suc zero) (suc (suc n)) k = simp append-assoc (modifies (skip (skip (apart (simp first-counter (omega arith))))))
+  same-arms (suc (suc m)) zero k = simp append-assoc (modifies (skip (skip (apart (simp first-counter (omega arith))))))
+  same-arms (suc (suc m)) (suc zero) k = simp append-assoc (modifies (skip (skip (apart (simp first-counter (omega arith))))))
+  same-arms (suc (suc m)) (suc (suc n)) k =
+      simp append-assoc (skip (skip (skip (same-firsts m n refl refl
+      (λ e. skip (skip (skip (skip (skip (skip (skip (skip (k (ap (λ x. suc (suc x)) e))))))))))))))
+
+-- what may follow the write of a reduced blocking call
+pub data Tail : List Operation → Type 0 where
+  alone : Tail []
+  read-after : {n : ℕ} → Tail (read (suc n) ∷ [])
+
+-- what reduced operations of a blocking call are: a write, a read, or both, none of them empty
+pub data Halves : List Operation → Type 0 where
+  write-first : {b : ℕ} {bs : List ℕ} {os : List Operation} → Tail os → Halves (write (b ∷ bs) ∷ os)
+  read-alone : {n : ℕ} → Halves (read (suc n) ∷ [])
+
+-- the first code of a half: SR1 is cleared for a start, or read where there are no tries
+pub data Opening : ℕ → Type 0 where
+  clears : Opening wSR1
+  looks : Opening SR1
+
+-- a start, or the address where there are no tries, opens a half
+opens : (s : Setup) (n : ℕ) (p : List Step) → Opening (first (start s n ++ Step.get SR1 ∷ p))
+unfolding start first
+opens s zero p = looks
+opens s (suc n) p = clears
+
+-- neither a counter read nor a DR write
+record Other (n : ℕ) : Type 0 where
+  counter : n ≡ CYC → ⊥
+  data-write : n ≡ wDR → ⊥
+
+-- a half makes an access, and its first is no CR1 read
+pub not-none : {n : ℕ} → Opening n → 0 ≡ n → ⊥
+not-none clears = omega arith
+not-none looks = omega arith
+
+pub not-control : {n : ℕ} → Opening n → CR1 ≡ n → ⊥
+not-control clears = omega arith
+not-control looks = omega arith
+
+-- nor a counter read or a DR write
+other : {n : ℕ} → Opening n → Other n
+other clears = omega arith
+other looks = omega arith
+
+module _ (s : Setup) where
+  -- so do the steps of a blocking call
+  pub opens-half : (a : ℕ) (previous : Previous) {os : List Operation} (p : List Step) → Halves os → Opening (first (blocking-steps s a previous os ++ p))
+  unfolding blocking-steps write-without-stop read-steps
+  opens-half a previous p (write-first t) = simp append-assoc (opens s (s .«start_retries») _)
+  opens-half a previous p read-alone = simp append-assoc (opens s (s .«start_retries») _)
+
+  -- after the write comes no counter read and no DR write
+  tail-other : (a : ℕ) {os : List Operation} (p : List Step) → Tail os → Other (first (blocking-steps s a Previous.Write os ++ p))
+  unfolding blocking-steps close-after first
+  tail-other a p alone = omega arith
+  tail-other a p read-after = other (opens-half a Previous.Write p read-alone)
+
+module _ {s : Setup} {P : Type 0} {p q : List Step} where
+  -- a start and an address
+  sends : (a c : ℕ) (r w : Bool) → (address-byte a r ≡ address-byte c w → Both s P p q)
+      → Both s P (send-start-and-wait s ++ (send-addr-and-wait s a r ++ p)) (send-start-and-wait s ++ (send-addr-and-wait s c w ++ q))
+  sends a c r w k = prefix (send-start-and-wait s) (skip (puts (λ e. skip (k e))))
+
+  -- the bytes of a write
+  same-writes : (b c : ℕ) (bs cs : List ℕ) → Other (first p) → Other (first q) → (_≡_ {A = List ℕ} (b ∷ bs) (c ∷ cs) → Both s P p q)
+      → Both s P (write-bytes-and-wait s (b ∷ bs) ++ p) (write-bytes-and-wait s (c ∷ cs) ++ q)
+  unfolding write-bytes-and-wait
+  same-writes b c bs cs hp hq k =
+      simp append-assoc (skip (skip (puts (λ e.
+      same-later bs cs (hp .data-write) (hq .data-write) (hp .counter) (hq .counter) (λ es. k (ap₂ _∷_ e es))))))
+
+module _ {s : Setup} {P : Type 0} {p q : List Step} where
+  -- two reads
+  read-half : (a c : ℕ) (previous : Previous) (m n : ℕ) → (a ≡ c → m ≡ n → Both s P p q)
+      → Both s P (blocking-steps s a previous (read (suc m) ∷ []) ++ p) (blocking-steps s c previous (read (suc n) ∷ []) ++ q)
+  unfolding blocking-steps read-steps close-after
+  read-half a c previous m n k = simp append-assoc (sends a c true true (λ e. same-arms m n (k (omega arith))))
+
+  -- what follows the write in each
+  tails : (a : ℕ) {os ps : List Operation} → Tail os → Tail ps → (os ≡ ps → Both s P p q)
+      → Both s P (blocking-steps s a Previous.Write os ++ p) (blocking-steps s a Previous.Write ps ++ q)
+  unfolding close-after first blocking-steps
+  tails a alone alone k = prefix (close s) (k refl)
+  tails a alone read-after k = apart (not-control (opens-half s a Previous.Write q read-alone))
+  tails a read-after alone k = flip (apart (not-control (opens-half s a Previous.Write p read-alone)))
+  tails a (read-after {n = m}) (read-after {n}) k = read-half a a Previous.Write m n (λ e es. k (ap (λ x. read (suc x) ∷ []) es))
+
+module _ {s : Setup} {P : Type 0} {p q : List Step} where
+  -- two blocking calls with a common trace have one address and the same reduced operations
+  pub same-blocking : (a c : ℕ) {os ps : List Operation} → Halves os → Halves ps → (a ≡ c → os ≡ ps → Both s P p q)
+      → Both s P (blocking-steps s a Previous.Nothing os ++ p) (blocking-steps s c Previous.Nothing ps ++ q)
+  unfolding blocking-steps write-without-stop read-steps
+  same-blocking a c (write-first {b} {bs} {os} t) (write-first {b = d} {bs = ds} {os = ps} u) k =
+      simp append-assoc (sends a c false false (λ e. let same : a ≡ c = omega arith in
+      same-writes b d bs ds (tail-other s a p t) (tail-other s c q u)
+      (λ es. rw same (tails c t u (λ et. k same (ap₂ (λ x xs. write x ∷ xs) es et))))))
+  same-blocking a c (write-first t) read-alone k = simp append-assoc (sends a c false true (λ e. absurd (omega arith)))
+  same-blocking a c read-alone (write-first u) k = simp append-assoc (sends a c true false (λ e. absurd (omega arith)))
+  same-blocking a c (read-alone {n = m}) (read-alone {n}) k = read-half a c Previous.Nothing m n (λ e es. k e (ap (λ x. read (suc x) ∷ []) es))

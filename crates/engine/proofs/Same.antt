@@ -1,0 +1,103 @@
+-- Equal reduced calls have equal steps.
+-- Assumes nothing.
+use Prim.Native.Nat.{ℕ, zero, suc, _+_}
+use native.Mathlib.Nat.{zero-add, suc-add, add-suc}
+use mathlib.Core.Bool.{Bool, true, false}
+use mathlib.Core.Path.{_≡_, refl, ap₂, _∙_}
+use mathlib.Core.List.{List, [], _∷_, _++_, map, append-assoc}
+use Rattle.units.specs.declared.Setup.{Setup}
+use Rattle.buslist.specs.Meaning.{Operation, write, read, Call}
+use Rattle.registers.specs.Machine.{Step}
+use Rattle.i2c.specs.declared.Previous.{Previous}
+use Rattle.i2c.specs.Polling.{write-bytes, read-bytes, last-read, turn-write, turn-read, turn, transfer, is-last, polling-steps}
+use Rattle.blocking.specs.Blocking.{write-without-stop, read-steps, blocking-steps}
+use Rattle.engine.specs.Calls.{engine-of, early, operations-steps, steps-of}
+use Rattle.engine.specs.Compare.{Reduced, gather, joined, dropped, reduced-operations, reduced, ends-empty}
+use Rattle.engine.proofs.Shape.{All, none, more, Shaped, polling-write, polling-read, polling-write-read, transaction, blocking-write, blocking-read, blocking-write-read, Full, FullIn, Sound, longer, rewritten}
+
+-- bytes in two parts
+write-append : (bs cs : List ℕ) → write-bytes (bs ++ cs) ≡ write-bytes bs ++ write-bytes cs
+unfolding write-bytes
+write-append [] cs = refl
+write-append (b ∷ bs) cs = rw (write-append bs cs)
+
+read-append : (m n : ℕ) → read-bytes (m + n) ≡ read-bytes m ++ read-bytes n
+unfolding read-bytes
+read-append zero n = rw zero-add
+read-append (suc m) n = rw (suc-add, read-bytes, read-append m n)
+
+-- two neighbours of one direction do what the joined one does
+join-write : (last : Bool) (bs cs : List ℕ) → write-bytes bs ++ transfer last (write cs) ≡ transfer last (write (bs ++ cs))
+unfolding transfer
+join-write true bs cs = simp (write-append, append-assoc)
+join-write false bs cs = simp write-append
+
+join-read : (m n : ℕ) (os : List Operation) → Full (read n ∷ os) → read-bytes m ++ transfer (is-last os) (read n) ≡ transfer (is-last os) (read (m + n))
+unfolding transfer ends-empty last-read
+join-read m (suc n) [] h = rw add-suc (simp (last-read, read-append, append-assoc))
+join-read m zero (o ∷ os) h = simp read-append
+join-read m (suc n) (o ∷ os) h = simp read-append
+
+-- something is gathered
+gather-last : (o : Operation) (os : List Operation) → is-last (gather o os) ≡ false
+unfolding gather
+gather-last o [] = refl
+gather-last (write bs) (write cs ∷ os) = gather-last (write (bs ++ cs)) os
+gather-last (write bs) (read n ∷ os) = refl
+gather-last (read m) (write cs ∷ os) = refl
+gather-last (read m) (read n ∷ os) = gather-last (read (m + n)) os
+
+-- gathered operations do what they did
+gather-steps : (a : ℕ) (previous : Previous) (o : Operation) (os : List Operation) → Full (o ∷ os) → polling-steps false a previous (o ∷ os) ≡ polling-steps false a previous (gather o os)
+unfolding gather polling-steps turn turn-write turn-read transfer ends-empty
+gather-steps a previous o [] h = refl
+gather-steps a previous (write bs) (write cs ∷ os) h =
+    simp (← join-write (is-last os) bs cs, append-assoc) refl ∙ gather-steps a previous (write (bs ++ cs)) os (rewritten (bs ++ cs) cs os h)
+gather-steps a previous (write bs) (read n ∷ os) h = rw (gather-steps a Previous.Write (read n) os h, gather-last (read n) os)
+gather-steps a previous (read m) (write cs ∷ os) h = rw (gather-steps a Previous.Read (write cs) os h, gather-last (write cs) os)
+gather-steps a previous (read m) (read n ∷ os) h =
+    simp (← join-read m n os h, append-assoc) refl ∙ gather-steps a previous (read (m + n)) os (longer m n os h)
+
+-- empty operations do nothing
+dropped-steps : (s : Setup) (a : ℕ) (previous : Previous) (os : List Operation) → blocking-steps s a previous os ≡ blocking-steps s a previous (dropped os)
+unfolding blocking-steps dropped write-without-stop read-steps
+dropped-steps s a previous [] = refl
+dropped-steps s a previous (write [] ∷ os) = dropped-steps s a previous os
+dropped-steps s a previous (write (b ∷ bs) ∷ os) = rw (dropped-steps s a Previous.Write os)
+dropped-steps s a previous (read zero ∷ os) = dropped-steps s a previous os
+dropped-steps s a previous (read (suc n) ∷ os) = rw (dropped-steps s a Previous.Read os)
+
+-- the steps of a reduced call
+unfoldable pub reduced-steps : Setup → Reduced → List Step
+reduced-steps s r = operations-steps s (r .engine) false (r .address) Previous.Nothing (r .operations)
+
+-- joined operations do what they did
+joined-steps : (a : ℕ) (os : List Operation) → Full os → polling-steps false a Previous.Nothing os ≡ polling-steps false a Previous.Nothing (joined os)
+unfolding joined
+joined-steps a [] h = refl
+joined-steps a (o ∷ os) h = gather-steps a Previous.Nothing o os h
+
+-- reduced operations do what they did, by the kind
+shaped-steps : (s : Setup) (a : ℕ) {k : ℕ} {os : List Operation} → Shaped k os → FullIn (engine-of k) os
+    → operations-steps s (engine-of k) (early k) a Previous.Nothing os ≡ operations-steps s (engine-of k) false a Previous.Nothing (reduced-operations (engine-of k) os)
+unfolding operations-steps reduced-operations engine-of early joined gather polling-steps turn ends-empty
+shaped-steps s a polling-write h = refl
+shaped-steps s a (polling-read {n = suc n}) h = refl
+shaped-steps s a (polling-write-read {n = suc n}) h = refl
+shaped-steps s a (transaction {os}) h = joined-steps a os h
+shaped-steps s a (blocking-write {b} {bs}) h = dropped-steps s a Previous.Nothing (write (b ∷ bs) ∷ [])
+shaped-steps s a (blocking-read {n}) h = dropped-steps s a Previous.Nothing (read (suc n) ∷ [])
+shaped-steps s a (blocking-write-read {bs} {n}) h = dropped-steps s a Previous.Nothing (write bs ∷ read n ∷ [])
+
+-- a sound call does what its reduced call does
+reduces : (s : Setup) (c : Call) → Sound c → steps-of s c ≡ reduced-steps s (reduced c)
+unfolding steps-of reduced reduced-steps
+reduces s c h = shaped-steps s (c .address) (h .shaped) (h .full)
+
+pub reduces-all : (s : Setup) {cs : List Call} → All Sound cs → map (steps-of s) cs ≡ map (reduced-steps s) (map reduced cs)
+reduces-all s none = refl
+reduces-all s (more {a = c} h hs) = ap₂ _∷_ (reduces s c h) (reduces-all s hs)
+
+-- equal reduced calls, the same steps
+pub same-steps : (s : Setup) {cs ds : List Call} → All Sound cs → All Sound ds → map reduced cs ≡ map reduced ds → map (steps-of s) cs ≡ map (steps-of s) ds
+same-steps s hc hd e = rw (reduces-all s hc, reduces-all s hd, e)

@@ -1,0 +1,14 @@
+use mathlib.Core.Path.{_≡_, refl, sym, ap, _∙_}
+use Rattle.engine.specs.Calls.{early}
+use Rattle.engine.proofs.early.Statement.{statement}
+use Rattle.engine.proofs.early.Tie as tie
+
+returns : tie.Need-returns
+unfolding early
+returns c = refl
+
+pub early-spec : {M : Type 1} → statement M
+early-spec =
+    tie.close
+    (tie.spec
+    returns)
