@@ -1,12 +1,12 @@
 -- The polling engine as steps (document 01, "Polling"), in its order.
 use Prim.Native.Nat.{ℕ, zero, suc, _+_, _*_}
-use mathlib.Core.Bool.{Bool, true, false, cond}
+use mathlib.Core.Bool.{Bool, true, false}
 use mathlib.Core.List.{List, [], _∷_, _++_}
 use Rattle.buslist.specs.Meaning.{Operation, write, read}
 use Rattle.registers.specs.declared.Source.{Source}
 use Rattle.registers.specs.declared.BusError.{BusError}
 use Rattle.registers.specs.Word.{none, one, both, SB, ADDR, BTF, RXNE, TXE, START, STOP, ACK}
-use Rattle.registers.specs.Access.{SR2, DR, wSR1, wDR}
+use Rattle.registers.specs.Access.{SR2, DR, wDR}
 use Rattle.registers.specs.Machine.{Step, send-start}
 use Rattle.i2c.specs.declared.Previous.{Previous}
 

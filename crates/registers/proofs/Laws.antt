@@ -1,21 +1,20 @@
 -- The laws of one access: what it does to what is still to come of a run. Only here are lists taken apart.
 -- Assumes nothing.
-use Prim.Native.Nat.{ℕ, zero, suc, _+_, _-_, _*_, _/_, _%_, _^_, _≤_, _<_}
+use Prim.Native.Nat.{ℕ, zero, suc, _+_, _-_, _%_, _^_, _≤_, _<_}
 use native.Mathlib.Omega.{arith}
 use mathlib.Core.Bool.{Bool, true, false, cond}
-use mathlib.Core.Path.{_≡_, refl, sym, ap, subst, _∙_}
+use mathlib.Core.Path.{_≡_, refl, ap, subst, _∙_}
 use mathlib.Core.List.{List, [], _∷_, _++_}
-use lib.ListN.{length, set, drop, getD, length-set, drop-of-length-le}
+use lib.ListN.{length, getD, length-set, drop-of-length-le}
 use lib.Seq.{drop-drop, drop-cons}
-use lib.Dec.{eqb, leb}
 use borrow.Author.Tests.{eq-eqb, ne-eqb, eqb-true, leb-false}
 use Rattle.units.specs.declared.Setup.{Setup}
 use Rattle.registers.specs.declared.Bus.{Bus}
 use Rattle.registers.specs.declared.BusError.{BusError}
 use Rattle.registers.specs.declared.Cut.{Cut}
 use Rattle.registers.specs.declared.Entry.{Entry}
-use Rattle.registers.specs.Access.{is-read, is-data, cut, CYC, DR, low-byte, store, entries-in, Ending}
-use Rattle.registers.specs.Machine.{Step, Access, access, next, exec, exec-on, exec-full, perform, no-room, Ran}
+use Rattle.registers.specs.Access.{is-read, is-data, cut, CYC, DR, store, entries-in, Ending}
+use Rattle.registers.specs.Machine.{Step, Access, access, next, exec, exec-on, exec-full, perform, no-room}
 use Rattle.registers.specs.State.{State, After, Took, at, going, word, then, taking, entry, recorded, received, replay, room, left, after, resume, read-one, read, write-one, write}
 
 length-store : (lg : List ℕ) (k : ℕ) (e : Entry) → length (store lg k e) ≡ length lg

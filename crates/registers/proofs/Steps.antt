@@ -1,8 +1,8 @@
 -- How a function's answer carries the run on: where it is a word or well, to what is left of the steps; where not, to the end.
 -- Assumes nothing.
-use Prim.Native.Nat.{ℕ, zero, suc, _+_, _-_, _*_, _/_, _%_, _^_, _≤_, _<_}
+use Prim.Native.Nat.{ℕ, zero, suc, _+_, _≤_, _<_}
 use native.Mathlib.Omega.{arith}
-use mathlib.Core.Bool.{Bool, true, false}
+use mathlib.Core.Bool.{true, false}
 use mathlib.Core.Logic.{⊎-elim}
 use mathlib.Core.Path.{_≡_, refl, sym, ap, _∙_}
 use mathlib.Core.List.{List, [], _∷_, _++_, append-assoc, append-nil}
@@ -13,18 +13,14 @@ use denote.Enum.Declared.{tagOf}
 use Rattle.units.specs.declared.Setup.{Setup}
 use Rattle.registers.specs.declared.Bus.{Bus}
 use Rattle.registers.specs.declared.BusError.{BusError}
-use Rattle.registers.specs.declared.Source.{Source}
-use Rattle.registers.specs.declared.Cut.{Cut}
 use Rattle.registers.specs.declared.Checked.{Checked}
 use Rattle.registers.specs.declared.Outcome.{Outcome}
-use Rattle.registers.specs.declared.Flagged.{Flagged}
 use Rattle.registers.proofs.Checked as C
 use Rattle.registers.proofs.Outcome as O
-use Rattle.registers.specs.Word.{has, BERR}
-use Rattle.registers.specs.Access.{SR1, wSR1, CYC, DR, is-read, is-data, cut, clear-word, entries-in}
-use Rattle.registers.specs.Machine.{Step, Handler, handle, Access, access, next, check-word, after-check}
-use Rattle.registers.specs.State.{State, After, Took, at, going, word, then, taking, entry, recorded, received, room, left, resume, read-one, read, write-one, write, check, check-flags, took-then, took-word}
-use Rattle.registers.specs.Contract.{outcome, checked, outcome-of, handled, Reads, Writes, Checks, Refines, Reaches, Waits}
+use Rattle.registers.specs.Access.{CYC, DR, is-read, is-data, cut, entries-in}
+use Rattle.registers.specs.Machine.{Step, Handler, handle, Access, access, next}
+use Rattle.registers.specs.State.{State, After, Took, at, word, then, taking, entry, recorded, received, room, left, resume, read-one, read}
+use Rattle.registers.specs.Contract.{outcome, checked, outcome-of, handled, Reads, Writes, Refines, Reaches, Waits}
 use Rattle.registers.proofs.Laws.{read-law, write-law, fail-law, done-law, received-other, resume-fewer}
 
 -- the tags of an answer that is no word, and of an outcome that is not well
@@ -186,6 +182,7 @@ read-counts {c} {rs} {lg} {rx} {b} {rs′} {lg′} {rx′} {r} {v} {b′} x t e 
           got = ap (λ (z : Bus). z .got) e;
         }
 
+-- a setup, where a function keeps something at every one
 abbrev pub no-setup : Setup
 no-setup =
     record {
@@ -203,10 +200,6 @@ pub keeps-fewer : {s : Setup} {q : List Step} {rs lg rx : List ℕ} {b : Bus} {r
     → Refines s q (at rs lg rx b) rs′ lg′ rx′ o → o ≡ Outcome.Well b′ → b .got ≤ b .used → b′ .got ≤ b′ .used
 keeps-fewer {s} {q} {rs} {lg} {rx} {b} {rs′} {lg′} {rx′} {o} {b′} x e h =
     resume-fewer s q (at rs lg rx b) (at rs′ lg′ rx′ b′) (rw append-nil at (x .is []) ∙ rw (e, done-law)) h
-
-pub refines-fewer : {q : List Step} {rs lg rx : List ℕ} {b : Bus} {rs′ lg′ rx′ : List ℕ} {o : Outcome} {b′ : Bus}
-    → ((s : Setup) → Refines s q (at rs lg rx b) rs′ lg′ rx′ o) → o ≡ Outcome.Well b′ → b .got ≤ b .used → b′ .got ≤ b′ .used
-refines-fewer x e h = keeps-fewer (x no-setup) e h
 
 -- a timed wait
 

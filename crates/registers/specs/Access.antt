@@ -2,7 +2,7 @@
 use Prim.Native.Nat.{ℕ, _+_, _*_, _/_, _%_, _^_}
 use mathlib.Core.Bool.{Bool, cond}
 use mathlib.Core.List.{List, [], _∷_, _++_}
-use lib.ListN.{length, set}
+use lib.ListN.{set}
 use lib.Dec.{eqb, leb}
 use Rattle.registers.specs.declared.Source.{Source}
 use Rattle.registers.specs.declared.BusError.{BusError}

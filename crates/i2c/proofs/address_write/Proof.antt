@@ -1,68 +1,34 @@
+use mathlib.Core.Path.{refl}
 use borrow.Author.Needs.{needs}
+use Rattle.registers.proofs.Steps.{here, write-step, write-stops, call-step, call-stops, call-last}
 use Rattle.i2c.proofs.address_write.Statement.{statement}
 use Rattle.i2c.proofs.address_write.Tie as tie
-use Rattle.i2c.proofs.address_write.Reads as reads
-use Rattle.i2c.proofs.address_write.Lts as lts
-use Rattle.i2c.proofs.check_until.Reads as check-until-reads
-use Rattle.i2c.proofs.send_addr.Reads as send-addr-reads
-use Rattle.registers.proofs.get.Reads as get-reads
 
--- src/lib.rt:298:9
-send-addr-requires : tie.Need-send-addr-requires
-send-addr-requires c κs = search needs
-
--- src/lib.rt:299:23
-enum-known-a : tie.Need-enum-known-a
-enum-known-a c = search needs
-
--- src/lib.rt:300:9
-same-length : tie.Need-same-length
-same-length c = search needs
-
--- src/lib.rt:300:9
 returns : tie.Need-returns
-returns c = ?
+returns c s rx = write-stops here (c .before .before .before .send-addr .ensures _ rx) refl (c .match .keys2)
 
--- src/lib.rt:302:9
-check-until-requires : tie.Need-check-until-requires
-check-until-requires c κs = search needs
-
--- src/lib.rt:303:23
-enum-known-b : tie.Need-enum-known-b
-enum-known-b c = search needs
-
--- src/lib.rt:304:9
-same-length-2 : tie.Need-same-length-2
-same-length-2 c = search needs
-
--- src/lib.rt:304:9
 returns-2 : tie.Need-returns-2
-returns-2 c = ?
+returns-2 c s rx =
+    let addr = c .before .before .before in
+    call-stops (addr .check-until .ensures s rx) _ (write-step here (addr .before .before .before .before .before .before .before .send-addr .ensures _ rx) refl (addr .before .before .before .a .given .1)) (c .match2 .keys2)
 
--- src/lib.rt:306:5
-get-requires : tie.Need-get-requires
-get-requires c κs = search needs
-
--- src/lib.rt:294:1
-same-length-3 : tie.Need-same-length-3
-same-length-3 c = search needs
-
--- src/lib.rt:294:1
 returns-3 : tie.Need-returns-3
-returns-3 c = ?
+returns-3 c s rx =
+    let addr = c .before .before .before .before .before .before .before .before .before in
+    call-last (call-step (addr .check-until .ensures s rx) _ (write-step here (addr .before .before .before .before .before .before .before .send-addr .ensures _ rx) refl (addr .before .before .before .a .given .1)) (c .before .before .before .before .before .b .given .1)) (c .before .before .get .ensures s rx)
 
 pub address-write-spec : {M : Type 1} → statement M
 address-write-spec =
     tie.close
     (tie.spec
-    send-addr-requires
-    enum-known-a
-    same-length
+    (λ c κs. search needs)
+    (λ c. search needs)
+    (λ c. search needs)
     returns
-    check-until-requires
-    enum-known-b
-    same-length-2
+    (λ c κs. search needs)
+    (λ c. search needs)
+    (λ c. search needs)
     returns-2
-    get-requires
-    same-length-3
+    (λ c κs. search needs)
+    (λ c. search needs)
     returns-3)

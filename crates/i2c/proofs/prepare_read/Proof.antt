@@ -1,47 +1,22 @@
 use borrow.Author.Needs.{needs}
+use Rattle.registers.proofs.Steps.{here, call-step, call-stops, call-last}
 use Rattle.i2c.proofs.prepare_read.Statement.{statement}
 use Rattle.i2c.proofs.prepare_read.Tie as tie
-use Rattle.i2c.proofs.prepare_read.Reads as reads
-use Rattle.i2c.proofs.prepare_read.Lts as lts
-use Rattle.i2c.proofs.address_read.Reads as address-read-reads
-use Rattle.i2c.proofs.request_read.Reads as request-read-reads
 
--- src/lib.rt:361:9
-request-read-requires : tie.Need-request-read-requires
-request-read-requires c κs = search needs
-
--- src/lib.rt:362:23
-enum-known-a : tie.Need-enum-known-a
-enum-known-a c = search needs
-
--- src/lib.rt:363:9
-same-length : tie.Need-same-length
-same-length c = search needs
-
--- src/lib.rt:363:9
 returns : tie.Need-returns
-returns c = ?
+returns c s rx = call-stops (c .before .before .before .request-read .ensures s rx) _ here (c .match .keys2)
 
--- src/lib.rt:365:5
-address-read-requires : tie.Need-address-read-requires
-address-read-requires c κs = search needs
-
--- src/lib.rt:357:1
-same-length-2 : tie.Need-same-length-2
-same-length-2 c = search needs
-
--- src/lib.rt:357:1
 returns-2 : tie.Need-returns-2
-returns-2 c = ?
+returns-2 c s rx = call-last (call-step (c .before .before .before .before .before .before .before .before .before .request-read .ensures s rx) _ here (c .before .before .before .before .before .a .given .1)) (c .before .before .address-read .ensures s rx)
 
 pub prepare-read-spec : {M : Type 1} → statement M
 prepare-read-spec =
     tie.close
     (tie.spec
-    request-read-requires
-    enum-known-a
-    same-length
+    (λ c κs. search needs)
+    (λ c. search needs)
+    (λ c. search needs)
     returns
-    address-read-requires
-    same-length-2
+    (λ c κs. search needs)
+    (λ c. search needs)
     returns-2)

@@ -1,47 +1,22 @@
 use borrow.Author.Needs.{needs}
+use Rattle.registers.proofs.Steps.{here, call-step, call-stops, call-last}
 use Rattle.i2c.proofs.prepare_write.Statement.{statement}
 use Rattle.i2c.proofs.prepare_write.Tie as tie
-use Rattle.i2c.proofs.prepare_write.Reads as reads
-use Rattle.i2c.proofs.prepare_write.Lts as lts
-use Rattle.i2c.proofs.address_write.Reads as address-write-reads
-use Rattle.i2c.proofs.request_write.Reads as request-write-reads
 
--- src/lib.rt:314:9
-request-write-requires : tie.Need-request-write-requires
-request-write-requires c κs = search needs
-
--- src/lib.rt:315:23
-enum-known-a : tie.Need-enum-known-a
-enum-known-a c = search needs
-
--- src/lib.rt:316:9
-same-length : tie.Need-same-length
-same-length c = search needs
-
--- src/lib.rt:316:9
 returns : tie.Need-returns
-returns c = ?
+returns c s rx = call-stops (c .before .before .before .request-write .ensures s rx) _ here (c .match .keys2)
 
--- src/lib.rt:318:5
-address-write-requires : tie.Need-address-write-requires
-address-write-requires c κs = search needs
-
--- src/lib.rt:310:1
-same-length-2 : tie.Need-same-length-2
-same-length-2 c = search needs
-
--- src/lib.rt:310:1
 returns-2 : tie.Need-returns-2
-returns-2 c = ?
+returns-2 c s rx = call-last (call-step (c .before .before .before .before .before .before .before .before .before .request-write .ensures s rx) _ here (c .before .before .before .before .before .a .given .1)) (c .before .before .address-write .ensures s rx)
 
 pub prepare-write-spec : {M : Type 1} → statement M
 prepare-write-spec =
     tie.close
     (tie.spec
-    request-write-requires
-    enum-known-a
-    same-length
+    (λ c κs. search needs)
+    (λ c. search needs)
+    (λ c. search needs)
     returns
-    address-write-requires
-    same-length-2
+    (λ c κs. search needs)
+    (λ c. search needs)
     returns-2)

@@ -7,7 +7,7 @@ use borrow.Author.Needs.{needs}
 use Rattle.units.specs.declared.Setup.{Setup}
 use Rattle.registers.specs.State.{at}
 use Rattle.registers.specs.Contract.{Reaches}
-use Rattle.registers.proofs.Steps.{here, rewritten, call-step, call-stops, ends-well, refines-fewer}
+use Rattle.registers.proofs.Steps.{here, rewritten, call-step, call-stops, ends-well, no-setup, keeps-fewer}
 use Rattle.i2c.specs.Polling.{recv-byte, read-bytes}
 use Rattle.i2c.proofs.read_bytes.Statement.{statement}
 use Rattle.i2c.proofs.read_bytes.Tie as tie
@@ -51,7 +51,7 @@ loop-again c =
       (λ s. call-step (came .recv-byte .ensures s) _ (rewritten (next-byte _ _ (came .before .before .before .loop-test .taken)) (came .before .before .before .before .loop .inv .0 s)) (c .before .o .given .1)),
       omega (arith, came .recv-byte .kept),
       omega (arith, came .recv-byte .kept),
-      refines-fewer (came .recv-byte .ensures) (c .before .o .given .1) (came .before .before .before .before .loop .inv .3),
+      keeps-fewer (came .recv-byte .ensures no-setup) (c .before .o .given .1) (came .before .before .before .before .loop .inv .3),
     )
 
 returns-2 : tie.Need-returns-2 Inv-loop μ-loop

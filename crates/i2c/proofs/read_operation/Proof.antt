@@ -1,78 +1,78 @@
+use Prim.Native.Nat.{ℕ, zero, suc, _≤_}
+use native.Mathlib.Omega.{arith}
+use mathlib.Core.Bool.{Bool, true, false, cond, _&&_, false≢true}
+use mathlib.Core.Path.{_≡_, refl, sym}
+use mathlib.Core.List.{[], _∷_, _++_}
+use lib.Dec.{eqb}
+use borrow.Author.Tests.{eqb-true}
 use borrow.Author.Needs.{needs}
+use Rattle.buslist.specs.Meaning.{Operation}
+use Rattle.registers.specs.declared.BusError.{BusError}
+use Rattle.registers.specs.Machine.{Step}
+use Rattle.registers.proofs.Steps.{here, rewritten, call-step, call-stops, call-last, ends-failed, no-setup, keeps-fewer}
+use Rattle.i2c.specs.declared.Previous.{Previous}
+use Rattle.i2c.specs.Polling.{read-bytes, last-read, turn-read, turn, transfer, operation-steps}
 use Rattle.i2c.proofs.read_operation.Statement.{statement}
 use Rattle.i2c.proofs.read_operation.Tie as tie
-use Rattle.i2c.proofs.read_operation.Reads as reads
-use Rattle.i2c.proofs.read_operation.Lts as lts
-use Rattle.i2c.proofs.read_bytes.Reads as read-bytes-reads
-use Rattle.i2c.proofs.read_wo_prepare.Reads as read-wo-prepare-reads
-use Rattle.i2c.proofs.turn_read.Reads as turn-read-reads
 
--- src/lib.rt:538:9
+-- an empty read that ends before its turn
+none-early : (early : Bool) (n : ℕ) (a : ℕ) (p : Previous) (last : Bool) → (early && eqb n 0) ≡ true → operation-steps early a p last (Operation.read n) ≡ Step.fail BusError.Overrun ∷ transfer last (Operation.read n)
+unfolding turn
+none-early true zero a p last e = refl
+none-early true (suc n) a p last e = let h = eqb-true (suc n) 0 e in absurd (omega arith)
+none-early false n a p last e = absurd (false≢true e)
+
+-- the steps of any other, the last one or not
+reads : (early : Bool) (n : ℕ) (b : Bool) {last : Bool} (a : ℕ) (p : Previous) → (early && eqb n 0) ≡ false → last ≡ b → operation-steps early a p last (Operation.read n) ≡ turn-read a p ++ cond b (last-read n) (read-bytes n)
+unfolding turn transfer
+reads true zero b a p h e = absurd (false≢true (sym h))
+reads true (suc n) true a p h e = rw e
+reads true (suc n) false a p h e = rw e
+reads false n true a p h e = rw e
+reads false n false a p h e = rw e
+
 returns : tie.Need-returns
-returns c = ?
+returns c s = ends-failed (rewritten (none-early (c .before .before .before .before .args .early) (c .before .before .before .before .args .count) _ _ _ (c .if1 .taken)) here)
 
--- src/lib.rt:540:9
-turn-read-requires : tie.Need-turn-read-requires
-turn-read-requires c κs = search needs
-
--- src/lib.rt:541:23
-enum-known-a : tie.Need-enum-known-a
-enum-known-a c = search needs
-
--- src/lib.rt:542:9
-same-length : tie.Need-same-length
-same-length c = search needs
-
--- src/lib.rt:542:9
 returns-2 : tie.Need-returns-2
-returns-2 c = ?
+returns-2 c s = let start = c .before .before .before .before .before .before .before .before .before in call-stops (c .before .before .before .turn-read .ensures s _) _ (rewritten (reads (start .args .early) (start .args .count) _ _ _ (c .before .before .before .before .before .if1 .left) refl) here) (c .match .keys2)
 
--- src/lib.rt:545:9
+-- the turn keeps the bytes received at most the readings used
+turned : (c : tie.After-known-told) → c .before .a .given .0 .0 .got ≤ c .before .a .given .0 .0 .used
+turned c = keeps-fewer (c .before .before .before .before .before .turn-read .ensures no-setup []) (c .before .a .given .1) (c .before .before .before .before .before .before .before .before .before .before .before .pre .1)
+
 read-wo-prepare-requires : tie.Need-read-wo-prepare-requires
-read-wo-prepare-requires c κs = ?
+read-wo-prepare-requires c κs = turned (c .before .before .before)
 
--- src/lib.rt:545:9
-same-length-2 : tie.Need-same-length-2
-same-length-2 c = search needs
-
--- src/lib.rt:545:9
-same-length-3 : tie.Need-same-length-3
-same-length-3 c = search needs
-
--- src/lib.rt:545:9
 returns-3 : tie.Need-returns-3
-returns-3 c = ?
+returns-3 c s =
+    let turn = c .before .before .before .before .before .before .before .before .before .before .before .before .before in
+    let start = turn .before .before .before .before .before .before in
+    call-last (call-step (turn .turn-read .ensures s _) _ (rewritten (reads (start .args .early) (start .args .count) _ _ _ (turn .before .before .if1 .left) (c .before .before .before .before .before .before .before .if2 .taken)) here) (c .before .before .before .before .before .before .before .before .before .a .given .1)) (c .before .before .before .before .read-wo-prepare .ensures s)
 
--- src/lib.rt:547:5
 read-bytes-requires : tie.Need-read-bytes-requires
-read-bytes-requires c κs = ?
+read-bytes-requires c κs = turned (c .before .before .before)
 
--- src/lib.rt:523:1
-same-length-4 : tie.Need-same-length-4
-same-length-4 c = search needs
-
--- src/lib.rt:523:1
-same-length-5 : tie.Need-same-length-5
-same-length-5 c = search needs
-
--- src/lib.rt:523:1
 returns-4 : tie.Need-returns-4
-returns-4 c = ?
+returns-4 c s =
+    let turn = c .before .before .before .before .before .before .before .before .before .before .before .before .before in
+    let start = turn .before .before .before .before .before .before in
+    call-last (call-step (turn .turn-read .ensures s _) _ (rewritten (reads (start .args .early) (start .args .count) _ _ _ (turn .before .before .if1 .left) (c .before .before .before .before .before .before .before .if2 .left)) here) (c .before .before .before .before .before .before .before .before .before .a .given .1)) (c .before .before .before .before .read-bytes .ensures s)
 
 pub read-operation-spec : {M : Type 1} → statement M
 read-operation-spec =
     tie.close
     (tie.spec
     returns
-    turn-read-requires
-    enum-known-a
-    same-length
+    (λ c κs. search needs)
+    (λ c. search needs)
+    (λ c. search needs)
     returns-2
     read-wo-prepare-requires
-    same-length-2
-    same-length-3
+    (λ c. search needs)
+    (λ c. search needs)
     returns-3
     read-bytes-requires
-    same-length-4
-    same-length-5
+    (λ c. search needs)
+    (λ c. search needs)
     returns-4)

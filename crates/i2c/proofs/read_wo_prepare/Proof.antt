@@ -1,119 +1,92 @@
+use Prim.Native.Nat.{ℕ, zero, suc, _-_}
+use native.Mathlib.Omega.{arith}
+use mathlib.Core.Path.{_≡_, refl}
+use mathlib.Core.List.{[], _∷_, _++_}
 use borrow.Author.Needs.{needs}
+use Rattle.registers.specs.declared.BusError.{BusError}
+use Rattle.registers.specs.Word.{one, STOP, ACK}
+use Rattle.registers.specs.Machine.{Step}
+use Rattle.registers.proofs.Steps.{here, rewritten, call-step, call-stops, call-last, ends-failed, no-setup, keeps-fewer}
+use Rattle.i2c.specs.Polling.{recv-byte, read-bytes, last-read}
 use Rattle.i2c.proofs.read_wo_prepare.Statement.{statement}
 use Rattle.i2c.proofs.read_wo_prepare.Tie as tie
-use Rattle.i2c.proofs.read_wo_prepare.Reads as reads
-use Rattle.i2c.proofs.read_wo_prepare.Lts as lts
-use Rattle.i2c.proofs.read_bytes.Reads as read-bytes-reads
-use Rattle.i2c.proofs.recv_byte.Reads as recv-byte-reads
-use Rattle.i2c.proofs.until_stop_clear.Reads as until-stop-clear-reads
-use Rattle.registers.proofs.modify_cr1.Reads as modify-cr1-reads
 
--- src/lib.rt:438:9
+-- no byte to read; or all but one, then the last
+no-byte : (n : ℕ) → n ≡ 0 → last-read n ≡ Step.fail BusError.Overrun ∷ []
+unfolding last-read
+no-byte n h = rw h
+
+some-byte : (n : ℕ) → (n ≡ 0 → ⊥) → last-read n ≡ read-bytes (n - 1) ++ (Step.modify (one STOP) (one ACK) ∷ recv-byte ++ Step.stop-clear ∷ [])
+unfolding last-read
+some-byte zero h = absurd (h refl)
+some-byte (suc n) h = let e : suc n - 1 ≡ n = omega arith in rw e
+
 returns : tie.Need-returns
-returns c = ?
+returns c s = ends-failed (rewritten (no-byte _ (c .if1 .taken)) here)
 
--- src/lib.rt:440:48
-sub-read-bytes : tie.Need-sub-read-bytes
-sub-read-bytes c = search needs
-
--- src/lib.rt:440:9
-read-bytes-requires : tie.Need-read-bytes-requires
-read-bytes-requires c κs = search needs
-
--- src/lib.rt:441:23
-enum-known-a : tie.Need-enum-known-a
-enum-known-a c = search needs
-
--- src/lib.rt:442:9
-same-length : tie.Need-same-length
-same-length c = search needs
-
--- src/lib.rt:442:9
-same-length-2 : tie.Need-same-length-2
-same-length-2 c = search needs
-
--- src/lib.rt:442:9
 returns-2 : tie.Need-returns-2
-returns-2 c = ?
+returns-2 c s = let bytes = c .before .before .before .before .before in call-stops (bytes .read-bytes .ensures s) _ (rewritten (some-byte _ (bytes .before .before .before .if1 .left)) here) (c .match .keys2)
 
--- src/lib.rt:445:9
-modify-cr1-requires : tie.Need-modify-cr1-requires
-modify-cr1-requires c κs = search needs
-
--- src/lib.rt:452:23
-enum-known-b : tie.Need-enum-known-b
-enum-known-b c = search needs
-
--- src/lib.rt:453:9
-same-length-3 : tie.Need-same-length-3
-same-length-3 c = search needs
-
--- src/lib.rt:453:9
-same-length-4 : tie.Need-same-length-4
-same-length-4 c = search needs
-
--- src/lib.rt:453:9
 returns-3 : tie.Need-returns-3
-returns-3 c = ?
+returns-3 c s =
+    let stop = c .before .before .before in
+    let bytes = stop .before .before .before .before .before .before .before .before .before in
+    call-stops (stop .modify-cr1 .ensures s _) _ (call-step (bytes .read-bytes .ensures s) _ (rewritten (some-byte _ (bytes .before .before .before .if1 .left)) here) (stop .before .before .before .a .given .1)) (c .match2 .keys2)
 
--- src/lib.rt:455:9
 recv-byte-requires : tie.Need-recv-byte-requires
-recv-byte-requires c κs = ?
+recv-byte-requires c κs =
+    let stop = c .before .before .before .before .before .before .before in
+    let bytes = stop .before .before .before .before .before .before .before .before .before in
+    keeps-fewer (stop .modify-cr1 .ensures no-setup []) (c .before .before .before .b .given .1) (keeps-fewer (bytes .read-bytes .ensures no-setup) (stop .before .before .before .a .given .1) (bytes .before .before .before .before .before .before .before .pre))
 
--- src/lib.rt:456:23
-enum-known-c : tie.Need-enum-known-c
-enum-known-c c = search needs
-
--- src/lib.rt:457:9
-same-length-5 : tie.Need-same-length-5
-same-length-5 c = search needs
-
--- src/lib.rt:457:9
-same-length-6 : tie.Need-same-length-6
-same-length-6 c = search needs
-
--- src/lib.rt:457:9
 returns-4 : tie.Need-returns-4
-returns-4 c = ?
+returns-4 c s =
+    let byte = c .before .before .before .before .before in
+    let stop = byte .before .before .before .before .before .before .before .before in
+    let bytes = stop .before .before .before .before .before .before .before .before .before in
+    call-stops (byte .recv-byte .ensures s) _
+    (call-step (stop .modify-cr1 .ensures s _) _ (call-step (bytes .read-bytes .ensures s) _ (rewritten (some-byte _ (bytes .before .before .before .if1 .left)) here) (stop .before .before .before .a .given .1)) (byte .before .before .before .before .b .given .1))
+    (c .match3 .keys2)
 
--- src/lib.rt:459:5
-until-stop-clear-requires : tie.Need-until-stop-clear-requires
-until-stop-clear-requires c κs = search needs
-
--- src/lib.rt:427:1
 same-length-7 : tie.Need-same-length-7
-same-length-7 c = ?
+same-length-7 c =
+    let byte = c .before .before .before .before .before .before .before .before .before .before .before in
+    let stop = byte .before .before .before .before .before .before .before .before in
+    omega (arith, c .before .before .until-stop-clear .kept, byte .recv-byte .kept, stop .modify-cr1 .kept, stop .before .before .before .before .before .before .before .before .before .read-bytes .kept)
 
--- src/lib.rt:427:1
-same-length-8 : tie.Need-same-length-8
-same-length-8 c = search needs
-
--- src/lib.rt:427:1
 returns-5 : tie.Need-returns-5
-returns-5 c = ?
+returns-5 c s =
+    let byte = c .before .before .before .before .before .before .before .before .before .before .before in
+    let stop = byte .before .before .before .before .before .before .before .before in
+    let bytes = stop .before .before .before .before .before .before .before .before .before in
+    call-last
+    (call-step (byte .recv-byte .ensures s) _
+    (call-step (stop .modify-cr1 .ensures s _) _ (call-step (bytes .read-bytes .ensures s) _ (rewritten (some-byte _ (bytes .before .before .before .if1 .left)) here) (stop .before .before .before .a .given .1)) (byte .before .before .before .before .b .given .1))
+    (c .before .before .before .before .before .c .given .1))
+    (c .before .before .until-stop-clear .ensures s _)
 
 pub read-wo-prepare-spec : {M : Type 1} → statement M
 read-wo-prepare-spec =
     tie.close
     (tie.spec
     returns
-    sub-read-bytes
-    read-bytes-requires
-    enum-known-a
-    same-length
-    same-length-2
+    (λ c. search needs)
+    (λ c κs. search needs)
+    (λ c. search needs)
+    (λ c. search needs)
+    (λ c. search needs)
     returns-2
-    modify-cr1-requires
-    enum-known-b
-    same-length-3
-    same-length-4
+    (λ c κs. search needs)
+    (λ c. search needs)
+    (λ c. search needs)
+    (λ c. search needs)
     returns-3
     recv-byte-requires
-    enum-known-c
-    same-length-5
-    same-length-6
+    (λ c. search needs)
+    (λ c. search needs)
+    (λ c. search needs)
     returns-4
-    until-stop-clear-requires
+    (λ c κs. search needs)
     same-length-7
-    same-length-8
+    (λ c. search needs)
     returns-5)

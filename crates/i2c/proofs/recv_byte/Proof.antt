@@ -1,6 +1,6 @@
 use mathlib.Core.List.{[]}
 use borrow.Author.Needs.{needs}
-use Rattle.registers.proofs.Steps.{here, call-step, call-stops, call-last, refines-fewer}
+use Rattle.registers.proofs.Steps.{here, call-step, call-stops, call-last, no-setup, keeps-fewer}
 use Rattle.i2c.proofs.recv_byte.Statement.{statement}
 use Rattle.i2c.proofs.recv_byte.Tie as tie
 
@@ -8,7 +8,7 @@ returns : tie.Need-returns
 returns c s = call-stops (c .before .before .before .check-twice .ensures s _) _ here (c .match .keys2)
 
 read-data-requires : tie.Need-read-data-requires
-read-data-requires c κs = refines-fewer (λ s. c .before .before .before .before .before .before .before .check-twice .ensures s []) (c .before .before .before .a .given .1) (c .before .before .before .before .before .before .before .before .before .before .before .before .pre)
+read-data-requires c κs = keeps-fewer (c .before .before .before .before .before .before .before .check-twice .ensures no-setup []) (c .before .before .before .a .given .1) (c .before .before .before .before .before .before .before .before .before .before .before .before .pre)
 
 returns-2 : tie.Need-returns-2
 returns-2 c s =

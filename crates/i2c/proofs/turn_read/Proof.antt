@@ -1,29 +1,41 @@
+use Prim.Native.Nat.{ℕ}
+use native.Mathlib.Omega.{arith}
+use mathlib.Core.Logic.{⊎-elim}
+use mathlib.Core.Path.{_≡_, refl}
+use mathlib.Core.List.{[], _∷_}
+use types.Run.{OneOf}
+use denote.Enum.Declared.{tagOf}
 use borrow.Author.Needs.{needs}
+use Rattle.registers.proofs.Steps.{here, rewritten, call-last, ends-well}
+use Rattle.i2c.specs.declared.Previous.{Previous}
+use Rattle.i2c.specs.Polling.{prepare-read, turn-read}
+use Rattle.i2c.proofs.Previous as P
 use Rattle.i2c.proofs.turn_read.Statement.{statement}
 use Rattle.i2c.proofs.turn_read.Tie as tie
-use Rattle.i2c.proofs.turn_read.Reads as reads
-use Rattle.i2c.proofs.turn_read.Lts as lts
-use Rattle.i2c.proofs.prepare_read.Reads as prepare-read-reads
 
--- src/lib.rt:494:27
-enum-told : tie.Need-enum-told
-enum-told c = search needs
+-- the operation before went the same way, or not
+same-way : (a : ℕ) (p : Previous) → p ≡ Previous.Read → turn-read a p ≡ []
+unfolding turn-read
+same-way a p e = rw e
 
--- src/lib.rt:495:14
-prepare-read-requires : tie.Need-prepare-read-requires
-prepare-read-requires c κs = search needs
+other-way : (a : ℕ) (p : Previous) → OneOf (0 ∷ 1 ∷ []) (tagOf P.the-type p) → turn-read a p ≡ prepare-read a
+unfolding turn-read
+other-way a Previous.Nothing h = refl
+other-way a Previous.Write h = refl
+other-way a Previous.Read h = ⊎-elim (λ (e : _≡_ {A = ℕ} 2 0). absurd (omega arith)) (λ (e : _≡_ {A = ℕ} 2 1). absurd (omega arith)) h
 
--- src/lib.rt:489:1
 returns : tie.Need-returns
-returns c = ?
+returns c s rx = ends-well (rewritten (same-way _ _ (c .enum-told .given .1)) here)
 
--- src/lib.rt:489:1
-same-length : tie.Need-same-length
-same-length c = search needs
-
--- src/lib.rt:489:1
 returns-2 : tie.Need-returns-2
-returns-2 c = ?
+returns-2 c s rx = call-last (rewritten (other-way _ _ (c .before .before .before .before .match .keys2)) here) (c .before .before .prepare-read .ensures s rx)
 
 pub turn-read-spec : {M : Type 1} → statement M
-turn-read-spec = tie.close (tie.spec enum-told prepare-read-requires returns same-length returns-2)
+turn-read-spec =
+    tie.close
+    (tie.spec
+    (λ c. search needs)
+    (λ c κs. search needs)
+    returns
+    (λ c. search needs)
+    returns-2)

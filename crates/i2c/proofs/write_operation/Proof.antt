@@ -1,63 +1,43 @@
+use Prim.Native.Nat.{ℕ}
+use mathlib.Core.Bool.{Bool, true, false, cond}
+use mathlib.Core.Path.{_≡_, refl}
+use mathlib.Core.List.{List, _++_}
 use borrow.Author.Needs.{needs}
+use Rattle.buslist.specs.Meaning.{Operation}
+use Rattle.registers.proofs.Steps.{here, rewritten, call-step, call-stops, call-last}
+use Rattle.i2c.specs.declared.Previous.{Previous}
+use Rattle.i2c.specs.Polling.{write-bytes, last-write, turn-write, turn, transfer, operation-steps}
 use Rattle.i2c.proofs.write_operation.Statement.{statement}
 use Rattle.i2c.proofs.write_operation.Tie as tie
-use Rattle.i2c.proofs.write_operation.Reads as reads
-use Rattle.i2c.proofs.write_operation.Lts as lts
-use Rattle.i2c.proofs.turn_write.Reads as turn-write-reads
-use Rattle.i2c.proofs.write_bytes.Reads as write-bytes-reads
-use Rattle.i2c.proofs.write_wo_prepare.Reads as write-wo-prepare-reads
 
--- src/lib.rt:512:9
-turn-write-requires : tie.Need-turn-write-requires
-turn-write-requires c κs = search needs
+-- the steps of a write, the last one or not
+writes : (early b : Bool) {last : Bool} (a : ℕ) (p : Previous) (bytes : List ℕ) → last ≡ b → operation-steps early a p last (Operation.write bytes) ≡ turn-write a p ++ cond b (last-write bytes) (write-bytes bytes)
+unfolding turn transfer
+writes true true a p bytes e = rw e
+writes true false a p bytes e = rw e
+writes false true a p bytes e = rw e
+writes false false a p bytes e = rw e
 
--- src/lib.rt:513:23
-enum-known-a : tie.Need-enum-known-a
-enum-known-a c = search needs
-
--- src/lib.rt:514:9
-same-length : tie.Need-same-length
-same-length c = search needs
-
--- src/lib.rt:514:9
 returns : tie.Need-returns
-returns c = ?
+returns c s rx early = call-stops (c .before .before .before .turn-write .ensures s rx) _ (rewritten (writes early _ _ _ _ refl) here) (c .match .keys2)
 
--- src/lib.rt:517:9
-write-wo-prepare-requires : tie.Need-write-wo-prepare-requires
-write-wo-prepare-requires c κs = search needs
-
--- src/lib.rt:517:9
-same-length-2 : tie.Need-same-length-2
-same-length-2 c = search needs
-
--- src/lib.rt:517:9
 returns-2 : tie.Need-returns-2
-returns-2 c = ?
+returns-2 c s rx early = call-last (call-step (c .before .before .before .before .before .before .before .before .before .before .turn-write .ensures s rx) _ (rewritten (writes early _ _ _ _ (c .before .before .before .before .if1 .taken)) here) (c .before .before .before .before .before .before .a .given .1)) (c .before .before .write-wo-prepare .ensures s rx)
 
--- src/lib.rt:519:5
-write-bytes-requires : tie.Need-write-bytes-requires
-write-bytes-requires c κs = search needs
-
--- src/lib.rt:500:1
-same-length-3 : tie.Need-same-length-3
-same-length-3 c = search needs
-
--- src/lib.rt:500:1
 returns-3 : tie.Need-returns-3
-returns-3 c = ?
+returns-3 c s rx early = call-last (call-step (c .before .before .before .before .before .before .before .before .before .before .turn-write .ensures s rx) _ (rewritten (writes early _ _ _ _ (c .before .before .before .before .if1 .left)) here) (c .before .before .before .before .before .before .a .given .1)) (c .before .before .write-bytes .ensures s rx)
 
 pub write-operation-spec : {M : Type 1} → statement M
 write-operation-spec =
     tie.close
     (tie.spec
-    turn-write-requires
-    enum-known-a
-    same-length
+    (λ c κs. search needs)
+    (λ c. search needs)
+    (λ c. search needs)
     returns
-    write-wo-prepare-requires
-    same-length-2
+    (λ c κs. search needs)
+    (λ c. search needs)
     returns-2
-    write-bytes-requires
-    same-length-3
+    (λ c κs. search needs)
+    (λ c. search needs)
     returns-3)

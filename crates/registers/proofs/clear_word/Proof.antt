@@ -1,4 +1,4 @@
-use mathlib.Core.Path.{_≡_, refl, sym, ap, _∙_}
+use mathlib.Core.Path.{refl}
 use Rattle.registers.specs.Access.{clear-word}
 use Rattle.registers.proofs.clear_word.Statement.{statement}
 use Rattle.registers.proofs.clear_word.Tie as tie

@@ -1,4 +1,4 @@
-use mathlib.Core.Path.{_≡_, refl, sym, ap, _∙_}
+use mathlib.Core.Path.{refl}
 use Rattle.registers.specs.Machine.{next}
 use Rattle.registers.proofs.Steps.{here, read-last}
 use borrow.Author.Needs.{needs}

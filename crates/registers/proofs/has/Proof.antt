@@ -1,4 +1,4 @@
-use mathlib.Core.Path.{_≡_, refl, sym, ap, _∙_}
+use mathlib.Core.Path.{refl}
 use Rattle.registers.specs.Word.{has}
 use borrow.Author.Needs.{needs}
 use Rattle.registers.proofs.has.Statement.{statement}

@@ -1,5 +1,5 @@
 use native.Mathlib.Omega.{arith}
-use mathlib.Core.Path.{_≡_, refl, sym, ap, _∙_}
+use mathlib.Core.Path.{sym, _∙_}
 use mathlib.Core.Logic.{⊎-elim}
 use borrow.Author.Tests.{leb-true, leb-false}
 use Rattle.registers.proofs.Laws.{read-full, read-empty, read-done, cut-register, cut-cycles}

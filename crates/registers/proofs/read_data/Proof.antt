@@ -1,7 +1,7 @@
 use lib.Seq.{set-out}
 use Rattle.registers.specs.State.{received}
 use native.Mathlib.Omega.{arith}
-use mathlib.Core.Path.{_≡_, refl, sym, ap, _∙_}
+use mathlib.Core.Path.{refl, ap, _∙_}
 use mathlib.Core.List.{[]}
 use lib.ListN.{length, length-set}
 use mathlib.Core.Logic.{⊎-elim}

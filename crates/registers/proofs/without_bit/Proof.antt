@@ -1,5 +1,5 @@
 use native.Mathlib.Omega.{arith}
-use mathlib.Core.Path.{_≡_, refl, sym, ap, _∙_}
+use mathlib.Core.Path.{sym, _∙_}
 use Rattle.registers.proofs.BitLaws.{without-none, without-on, without-off, on-le}
 use borrow.Author.Needs.{needs}
 use Rattle.registers.proofs.without_bit.Statement.{statement}
