@@ -1,5 +1,5 @@
 use native.Mathlib.Omega.{arith}
-use Rattle.registers.proofs.Steps.{here, call-step, call-stops, call-last, keeps-fewer, refines-fewer}
+use Rattle.registers.proofs.Steps.{here, call-step, call-stops, call-last, keeps-fewer, no-setup}
 use borrow.Author.Needs.{needs}
 use Rattle.blocking.proofs.last_three.Statement.{statement}
 use Rattle.blocking.proofs.last_three.Tie as tie
@@ -24,7 +24,7 @@ receive-requires : tie.Need-receive-requires
 receive-requires c κs =
     let b = c .before .before .before in
     let a = b .before .before .before .before .before .before .before .before .before .before in
-    refines-fewer (b .before .before .before .before .before .before .second-last .ensures) (b .b .given .1) (keeps-fewer (a .before .before .before .before .before .before .third-last .ensures) (a .a .given .1) (a .before .before .before .before .before .before .before .before .before .before .before .before .pre))
+    keeps-fewer (b .before .before .before .before .before .before .second-last .ensures no-setup) (b .b .given .1) (keeps-fewer (a .before .before .before .before .before .before .third-last .ensures) (a .a .given .1) (a .before .before .before .before .before .before .before .before .before .before .before .before .pre))
 
 returns-3 : tie.Need-returns-3
 returns-3 c =

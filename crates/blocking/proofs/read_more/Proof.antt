@@ -1,5 +1,5 @@
 use mathlib.Core.List.{[]}
-use Rattle.registers.proofs.Steps.{here, call-step, call-stops, call-last, keeps-fewer, refines-fewer}
+use Rattle.registers.proofs.Steps.{here, call-step, call-stops, call-last, keeps-fewer, no-setup}
 use borrow.Author.Needs.{needs}
 use Rattle.blocking.proofs.read_more.Statement.{statement}
 use Rattle.blocking.proofs.read_more.Tie as tie
@@ -10,7 +10,7 @@ returns c = call-stops (c .before .before .before .more-ready .ensures _ _) _ he
 first-bytes-requires : tie.Need-first-bytes-requires
 first-bytes-requires c κs =
     let a = c .before .before .before in
-    refines-fewer (λ s. a .before .before .before .before .more-ready .ensures s []) (a .a .given .1) (a .before .before .before .before .before .before .before .before .before .pre)
+    keeps-fewer (a .before .before .before .before .more-ready .ensures no-setup []) (a .a .given .1) (a .before .before .before .before .before .before .before .before .before .pre)
 
 returns-2 : tie.Need-returns-2
 returns-2 c =
@@ -21,7 +21,7 @@ last-three-requires : tie.Need-last-three-requires
 last-three-requires c κs =
     let b = c .before .before .before in
     let a = b .before .before .before .before .before .before .before .before .before .before in
-    keeps-fewer (b .before .before .before .before .before .before .first-bytes .ensures) (b .b .given .1) (refines-fewer (λ s. a .before .before .before .before .more-ready .ensures s []) (a .a .given .1) (a .before .before .before .before .before .before .before .before .before .pre))
+    keeps-fewer (b .before .before .before .before .before .before .first-bytes .ensures) (b .b .given .1) (keeps-fewer (a .before .before .before .before .more-ready .ensures no-setup []) (a .a .given .1) (a .before .before .before .before .before .before .before .before .before .pre))
 
 returns-3 : tie.Need-returns-3
 returns-3 c =

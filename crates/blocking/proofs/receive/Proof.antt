@@ -1,5 +1,5 @@
 use mathlib.Core.List.{[]}
-use Rattle.registers.proofs.Steps.{here, call-step, call-stops, call-last, refines-fewer, waits-end}
+use Rattle.registers.proofs.Steps.{here, call-step, call-stops, call-last, waits-end, keeps-fewer, no-setup}
 use borrow.Author.Needs.{needs}
 use Rattle.blocking.proofs.receive.Statement.{statement}
 use Rattle.blocking.proofs.receive.Tie as tie
@@ -10,7 +10,7 @@ returns c = call-stops (waits-end (c .before .before .before .busy-wait-cycles .
 read-data-requires : tie.Need-read-data-requires
 read-data-requires c κs =
     let a = c .before .before .before in
-    refines-fewer (λ s. waits-end (a .before .before .before .before .busy-wait-cycles .ensures s _ [])) (a .a .given .1) (a .before .before .before .before .before .before .before .before .before .pre)
+    keeps-fewer (waits-end (a .before .before .before .before .busy-wait-cycles .ensures no-setup _ [])) (a .a .given .1) (a .before .before .before .before .before .before .before .before .before .pre)
 
 returns-2 : tie.Need-returns-2
 returns-2 c =

@@ -1,5 +1,5 @@
 use mathlib.Core.List.{[]}
-use Rattle.registers.proofs.Steps.{here, call-step, call-stops, call-last, refines-fewer}
+use Rattle.registers.proofs.Steps.{here, call-step, call-stops, call-last, keeps-fewer, no-setup}
 use borrow.Author.Needs.{needs}
 use Rattle.blocking.proofs.second_last.Statement.{statement}
 use Rattle.blocking.proofs.second_last.Tie as tie
@@ -10,7 +10,7 @@ returns c s = call-stops (c .before .before .before .send-stop .ensures _ _) _ h
 read-data-requires : tie.Need-read-data-requires
 read-data-requires c κs =
     let a = c .before .before .before in
-    refines-fewer (λ s. a .before .before .before .before .send-stop .ensures s []) (a .a .given .1) (a .before .before .before .before .before .before .before .before .before .pre)
+    keeps-fewer (a .before .before .before .before .send-stop .ensures no-setup []) (a .a .given .1) (a .before .before .before .before .before .before .before .before .before .pre)
 
 returns-2 : tie.Need-returns-2
 returns-2 c s =

@@ -1,5 +1,5 @@
 use mathlib.Core.List.{[]}
-use Rattle.registers.proofs.Steps.{here, call-step, call-stops, call-last, refines-fewer, waits-end}
+use Rattle.registers.proofs.Steps.{here, call-step, call-stops, call-last, waits-end, keeps-fewer, no-setup}
 use borrow.Author.Needs.{needs}
 use Rattle.blocking.proofs.third_last.Statement.{statement}
 use Rattle.blocking.proofs.third_last.Tie as tie
@@ -16,7 +16,7 @@ read-data-requires : tie.Need-read-data-requires
 read-data-requires c κs =
     let b = c .before .before .before in
     let a = b .before .before .before .before .before .before .before in
-    refines-fewer (λ s. b .before .before .before .before .modify-cr1 .ensures s []) (b .b .given .1) (refines-fewer (λ s. waits-end (a .before .before .before .before .busy-wait-cycles .ensures s _ [])) (a .a .given .1) (a .before .before .before .before .before .before .before .before .before .pre))
+    keeps-fewer (b .before .before .before .before .modify-cr1 .ensures no-setup []) (b .b .given .1) (keeps-fewer (waits-end (a .before .before .before .before .busy-wait-cycles .ensures no-setup _ [])) (a .a .given .1) (a .before .before .before .before .before .before .before .before .before .pre))
 
 returns-3 : tie.Need-returns-3
 returns-3 c =
