@@ -2,15 +2,17 @@
 -- Assumes nothing.
 use Prim.Native.Nat.{ℕ, zero, suc, _+_, _-_, _≤_, _<_}
 use native.Mathlib.Omega.{arith}
-use native.Mathlib.Nat.{add-zero, zero-add, add-assoc}
+use native.Mathlib.Nat.{add-zero, zero-add, add-assoc, sub-zero}
 use mathlib.Core.Bool.{Bool, true, false}
 use mathlib.Core.Path.{_≡_, refl, sym, ap, _∙_}
 use mathlib.Core.List.{List, [], _∷_, _++_, map, append-nil}
 use lib.Dec.{eqb, leb}
 use borrow.Author.Tests.{eq-eqb, ne-eqb}
 use Rattle.units.specs.declared.Setup.{Setup}
-use Rattle.buslist.specs.Meaning.{Operation}
-use Rattle.buslist.specs.Table.{entries}
+use Rattle.buslist.specs.declared.OperationEntry.{OperationEntry}
+use Rattle.buslist.specs.declared.CallEntry.{CallEntry}
+use Rattle.buslist.specs.Meaning.{Operation, operation-of, call-of, calls-of}
+use Rattle.buslist.specs.Table.{call-count, call-at, operation-at, entries}
 use Rattle.buslist.proofs.Walk.{entries-step, entries-end}
 use Rattle.registers.specs.declared.Bus.{Bus}
 use Rattle.registers.specs.declared.Outcome.{Outcome}
@@ -23,7 +25,7 @@ use Rattle.registers.proofs.Steps.{NotWell, not-first}
 use Rattle.i2c.specs.declared.Previous.{Previous}
 use Rattle.i2c.specs.Polling.{polling-steps, is-last}
 use Rattle.blocking.specs.Blocking.{blocking-steps}
-use Rattle.engine.specs.Calls.{Engine, engine-of, operations-steps, operation-steps, moved, end-steps}
+use Rattle.engine.specs.Calls.{Engine, engine-of, early, steps-of, operations-steps, operation-steps, moved, end-steps}
 use Rattle.engine.specs.Whole.{Final, more-calls, after-calls, calls-run, bus-of, final, Ends, Left}
 
 -- no call is done yet
@@ -57,6 +59,11 @@ pub calls-end : {s : Setup} {cs : List (List Step)} {st : State} {k : ℕ} {rs l
 unfolding calls-run
 calls-end x = record { is = x .is ∙ rw add-zero }
 
+-- an operation that is no write
+pub not-a-write : (l : List ℕ) (o : OperationEntry) → (o .direction ≡ 0 → ⊥) → operation-of l o ≡ Operation.read (o .length)
+unfolding operation-of
+not-a-write l o h = rw (ne-eqb _ _ h)
+
 -- the engine of a kind, by its test
 pub is-polling-kind : (kind : ℕ) → leb kind 3 ≡ true → engine-of kind ≡ Engine.polling
 unfolding engine-of
@@ -87,3 +94,42 @@ last-is f entry j n h = go (n - (j + 1)) refl
     go : (m : ℕ) → n - (j + 1) ≡ m → is-last (map f (entries entry (j + 1) (n - (j + 1)))) ≡ eqb (j + 1) n
     go zero e = rw (e, eq-eqb (j + 1) n (omega arith))
     go (suc m) e = rw (e, ne-eqb (j + 1) n (λ q. omega arith))
+
+-- operation j of a call, and the operations after it
+module _ (s : Setup) (e : Engine) (early : Bool) (a : ℕ) (previous : Previous) {A : Type 0} (f : A → Operation) (entry : ℕ → A) (j n : ℕ) where
+  pub operations-next : {o : A} → j < n → o ≡ entry j → {previous′ : Previous} → previous′ ≡ moved e previous (f o)
+      → operations-steps s e early a previous (map f (entries entry j (n - j)))
+      ≡ operation-steps s e early a previous (eqb (j + 1) n) (f o) ++ operations-steps s e early a previous′ (map f (entries entry (j + 1) (n - (j + 1))))
+  operations-next h k m = rw (entries-step entry j n h, operations-cons s early a previous e, last-is f entry j n h, ← k, m)
+
+  pub operations-done : n ≤ j → operations-steps s e early a previous (map f (entries entry j (n - j))) ≡ end-steps s e previous
+  operations-done h = rw (entries-end entry j n h) (operations-nil s early a previous e)
+
+-- the calls of a list, as the outer loop takes them
+module _ (s : Setup) (l : List ℕ) where
+  -- the calls from number k on, of n
+  abbrev pub calls-from : ℕ → ℕ → List (List Step)
+  calls-from k n = map (steps-of s) (map (call-of l) (entries (call-at l) k (n - k)))
+
+  pub calls-all : (n : ℕ) → n ≡ call-count l → map (steps-of s) (calls-of l) ≡ calls-from 0 n
+  calls-all n e = rw (e, sub-zero)
+
+  -- call k is done operation by operation, from its first to its end
+  abbrev pub call-from : CallEntry → ℕ → List Step
+  call-from c end =
+      operations-steps s (engine-of (c .kind)) (early (c .kind)) (c .address) Previous.Nothing
+      (map (operation-of l) (entries (operation-at l) (c .first) (end - c .first)))
+
+  pub calls-next : (k n end : ℕ) {c : CallEntry} → k < n → c ≡ call-at l k → end ≡ c .first + c .count
+      → calls-from k n ≡ call-from c end ∷ calls-from (k + 1) n
+  unfolding steps-of
+  calls-next k n end {c} h e f =
+      let g : end - c .first ≡ c .count = omega arith in
+      rw (entries-step (call-at l) k n h, ← e, g)
+
+  pub calls-none : (k n : ℕ) → n ≤ k → calls-from k n ≡ []
+  calls-none k n h = rw (entries-end (call-at l) k n h)
+
+-- the calls that are left, written otherwise
+pub left-rewritten : {s : Setup} {cs cs₁ cs₂ : List (List Step)} {st st₁ : State} {k : ℕ} → cs₁ ≡ cs₂ → Left s cs st k cs₁ st₁ → Left s cs st k cs₂ st₁
+left-rewritten e x = rw e at x

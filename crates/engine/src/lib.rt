@@ -34,7 +34,7 @@ pub struct Counts {
 // How the calls of a run ended: the last outcome, and the calls ended well.
 struct Stopped {
     outcome: Outcome,
-    calls: usize,
+    calls: u32,
 }
 
 // What stands for a speed word where the settings have none.
@@ -283,10 +283,7 @@ fn run_calls(
         bus = next;
         k += 1;
     }
-    Stopped {
-        outcome,
-        calls: k as usize,
-    }
+    Stopped { outcome, calls: k }
 }
 
 // The bus that an outcome leaves.
@@ -331,7 +328,7 @@ fn run_accepted(list: &[u8], readings: &[u32], rx: &mut [u8], log: &mut [u32]) -
     };
     let stopped = run_calls(list, readings, rx, log, bus, setup);
     let ended = stopped.outcome;
-    counts_of(ended, stopped.calls)
+    counts_of(ended, stopped.calls as usize)
 }
 
 // The run of a bus list on these readings: the accesses go to the record `log`, the received bytes to `rx`.

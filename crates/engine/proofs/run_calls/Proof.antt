@@ -1,0 +1,206 @@
+-- The labelled loops: after k calls the calls from k on are left, and within a call its operations from j on.
+use Prim.Native.Nat.{ℕ, _+_, _-_, _≤_, _<_}
+use native.Mathlib.Omega.{arith}
+use mathlib.Core.Path.{_≡_, refl, sym}
+use mathlib.Core.List.{List, [], map}
+use lib.ListN.{length}
+use lib.Dec.{eqb}
+use borrow.Author.Needs.{needs}
+use Rattle.buslist.specs.Table.{call-count, operation-at, entries}
+use Rattle.buslist.specs.Meaning.{operation-of, calls-of}
+use Rattle.buslist.proofs.Accept.{call-address}
+use Rattle.registers.specs.declared.Outcome.{Outcome}
+use Rattle.registers.specs.State.{at}
+use Rattle.registers.specs.Contract.{Reaches}
+use Rattle.registers.proofs.Steps.{here, rewritten, call-step, call-stops, call-last, keeps-fewer}
+use Rattle.engine.specs.Calls.{engine-of, early, steps-of, operations-steps}
+use Rattle.engine.specs.Whole.{Left}
+use Rattle.engine.proofs.CallLaws.{calls-start, call-stops-run, next-call, calls-end, operations-next, operations-done, calls-from, calls-all, calls-next, calls-none, left-rewritten}
+use Rattle.engine.proofs.run_calls.Statement.{statement}
+use Rattle.engine.proofs.run_calls.Tie as tie
+
+abbrev Inv-loop : tie.InvT-loop
+Inv-loop list readings rx₀ log₀ setup calls bus₀ k call end j₀ previous₀ rx log bus j previous =
+    Reaches setup
+    (operations-steps setup (engine-of (call .kind)) (early (call .kind)) (call .address) previous₀ (map (operation-of list) (entries (operation-at list) j₀ (end - j₀))))
+    (at readings log₀ rx₀ bus₀)
+    (operations-steps setup (engine-of (call .kind)) (early (call .kind)) (call .address) previous (map (operation-of list) (entries (operation-at list) j (end - j))))
+    (at readings log rx bus)
+    × (length rx ≡ length rx₀) × (length log ≡ length log₀) × (bus .got ≤ bus .used)
+
+abbrev μ-loop : tie.MeasureT-loop
+μ-loop list readings rx₀ log₀ setup calls bus₀ k call end j₀ previous₀ rx log bus j previous = end - j
+
+abbrev Inv-calls : tie.InvT-calls
+Inv-calls list readings rx₀ log₀ setup calls bus₀ outcome₀ k₀ rx log bus outcome k =
+    Left setup (map (steps-of setup) (calls-of list)) (at readings log₀ rx₀ bus₀) k (calls-from setup list k calls) (at readings log rx bus)
+    × (length rx ≡ length rx₀) × (length log ≡ length log₀) × (bus .got ≤ bus .used) × (outcome ≡ Outcome.Well bus)
+
+abbrev μ-calls : tie.MeasureT-calls
+μ-calls list readings rx₀ log₀ setup calls bus₀ outcome₀ k₀ rx log bus outcome k = calls - k
+
+call-count-requires : tie.Need-call-count-requires Inv-loop μ-loop Inv-calls μ-calls
+call-count-requires c κs = search needs
+
+calls-holds : tie.Need-calls-holds Inv-loop μ-loop Inv-calls μ-calls
+calls-holds c =
+    (left-rewritten (calls-all _ _ _ (c .call-count .ensures)) calls-start, refl, refl, c .before .before .before .before .before .pre .1, refl)
+
+call-at-requires : tie.Need-call-at-requires Inv-loop μ-loop Inv-calls μ-calls
+call-at-requires c κs = search needs
+
+cast-end : tie.Need-cast-end Inv-loop μ-loop Inv-calls μ-calls
+cast-end c = omega (arith, c .struct-known .given)
+
+cast-end-2 : tie.Need-cast-end-2 Inv-loop μ-loop Inv-calls μ-calls
+cast-end-2 c = search needs
+
+add-end : tie.Need-add-end Inv-loop μ-loop Inv-calls μ-calls
+add-end c = search needs
+
+cast-j : tie.Need-cast-j Inv-loop μ-loop Inv-calls μ-calls
+cast-j c = search needs
+
+loop-holds : tie.Need-loop-holds Inv-loop μ-loop Inv-calls μ-calls
+loop-holds c = (here, refl, refl, c .before .before .before .before .before .calls .inv .3)
+
+operation-at-requires : tie.Need-operation-at-requires Inv-loop μ-loop Inv-calls μ-calls
+operation-at-requires c κs = search needs
+
+add-operation : tie.Need-add-operation Inv-loop μ-loop Inv-calls μ-calls
+add-operation c = search needs
+
+operation-requires : tie.Need-operation-requires Inv-loop μ-loop Inv-calls μ-calls
+operation-requires c κs =
+    let a = c .before .before .before .before .before .before .before .before .before .before .before .before .before .before .before .before in
+    let h : c .before .before .before .before .before .before .before .before .before .before .calls .k < call-count (a .args .list .now) = omega (arith, c .before .before .before .before .before .before .before .before .before .calls-test .taken, c .before .before .before .before .before .before .before .before .before .before .before .call-count .ensures) in
+    (rw (c .before .before .before .before .before .before .before .before .call-at .ensures) (call-address _ _ (a .pre .0) _ h), c .before .before .before .before .loop .inv .3)
+
+enum-known-outcome : tie.Need-enum-known-outcome Inv-loop μ-loop Inv-calls μ-calls
+enum-known-outcome c = search needs
+
+moved-requires : tie.Need-moved-requires Inv-loop μ-loop Inv-calls μ-calls
+moved-requires c κs = search needs
+
+add-j : tie.Need-add-j Inv-loop μ-loop Inv-calls μ-calls
+add-j c = omega (arith, c .before .before .before .before .before .before .before .before .before .before .before .before .loop-test .taken, c .before .before .before .before .before .before .before .before .before .before .before .before .before .before .before .struct-known2 .given, c .before .before .before .before .before .before .before .before .before .before .before .before .before .before .before .before .struct-known .given)
+
+loop-less : tie.Need-loop-less Inv-loop μ-loop Inv-calls μ-calls
+loop-less c = search needs
+
+loop-again : tie.Need-loop-again Inv-loop μ-loop Inv-calls μ-calls
+loop-again c =
+    let o = c .before .before .before .before .before .before .before .before in
+    let t = c .before .before .before .before .before .before .before .before .before .before .before .before in (
+      call-step (o .operation .ensures) _
+      (rewritten (operations-next _ _ _ _ _ _ _ _ _ (t .loop-test .taken) (c .before .before .before .before .before .before .before .before .before .before .before .operation-at .ensures) (c .moved .ensures)) (t .before .loop .inv .0))
+      (c .before .before .outcome .given .1),
+      omega (arith, o .operation .kept),
+      omega (arith, o .operation .kept),
+      keeps-fewer (o .operation .ensures) (c .before .before .outcome .given .1) (t .before .loop .inv .3),
+    )
+
+end-call-requires : tie.Need-end-call-requires Inv-loop μ-loop Inv-calls μ-calls
+end-call-requires c κs = search needs
+
+enum-known-outcome-2 : tie.Need-enum-known-outcome-2 Inv-loop μ-loop Inv-calls μ-calls
+enum-known-outcome-2 c = search needs
+
+add-k : tie.Need-add-k Inv-loop μ-loop Inv-calls μ-calls
+add-k c = search needs
+
+calls-less : tie.Need-calls-less Inv-loop μ-loop Inv-calls μ-calls
+calls-less c = search needs
+
+calls-again : tie.Need-calls-again Inv-loop μ-loop Inv-calls μ-calls
+calls-again c =
+    let e = c .before .before .before .before .before in
+    let l = c .before .before .before .before .before .before .before in
+    let k = c .before .before .before .before .before .before .before .before .before .before .before .before .before in
+    let done = call-last (rewritten (operations-done _ _ _ _ _ _ _ _ _ (l .loop-test .left)) (l .before .loop .inv .0)) (e .end-call .ensures _) in (
+      next-call (left-rewritten (calls-next _ _ _ _ _ (k .calls-test .taken) (c .before .before .before .before .before .before .before .before .before .before .before .before .call-at .ensures) refl) (k .before .calls .inv .0)) done (c .before .outcome2 .given .1),
+      omega arith,
+      omega (arith, e .end-call .kept),
+      keeps-fewer (e .end-call .ensures []) (c .before .outcome2 .given .1) (l .before .loop .inv .3),
+      refl,
+    )
+
+same-length : tie.Need-same-length Inv-loop μ-loop Inv-calls μ-calls
+same-length c = search needs
+
+same-length-2 : tie.Need-same-length-2 Inv-loop μ-loop Inv-calls μ-calls
+same-length-2 c = search needs
+
+returns : tie.Need-returns Inv-loop μ-loop Inv-calls μ-calls
+returns c =
+    rw (c .before .calls .inv .4) (calls-end (left-rewritten (calls-none _ _ _ _ (c .calls-test .left)) (c .before .calls .inv .0)))
+
+same-length-3 : tie.Need-same-length-3 Inv-loop μ-loop Inv-calls μ-calls
+same-length-3 c = search needs
+
+same-length-4 : tie.Need-same-length-4 Inv-loop μ-loop Inv-calls μ-calls
+same-length-4 c = search needs
+
+returns-2 : tie.Need-returns-2 Inv-loop μ-loop Inv-calls μ-calls
+returns-2 c =
+    let o = c .before .before .before .before .before in
+    let t = c .before .before .before .before .before .before .before .before .before in
+    let k = c .before .before .before .before .before .before .before .before .before .before .before .before .before .before .before in
+    call-stops-run (left-rewritten (calls-next _ _ _ _ _ (k .calls-test .taken) (c .before .before .before .before .before .before .before .before .before .before .before .before .before .before .call-at .ensures) refl) (k .before .calls .inv .0))
+    (call-stops (o .operation .ensures) _
+    (rewritten (operations-next _ _ _ _ _ _ _ _ _ (t .loop-test .taken) (c .before .before .before .before .before .before .before .before .operation-at .ensures) refl) (t .before .loop .inv .0)) (c .match .keys2))
+    (c .match .keys2)
+
+same-length-5 : tie.Need-same-length-5 Inv-loop μ-loop Inv-calls μ-calls
+same-length-5 c = search needs
+
+same-length-6 : tie.Need-same-length-6 Inv-loop μ-loop Inv-calls μ-calls
+same-length-6 c = search needs
+
+returns-3 : tie.Need-returns-3 Inv-loop μ-loop Inv-calls μ-calls
+returns-3 c =
+    let e = c .before .before .before in
+    let l = c .before .before .before .before .before in
+    let k = c .before .before .before .before .before .before .before .before .before .before .before in
+    call-stops-run (left-rewritten (calls-next _ _ _ _ _ (k .calls-test .taken) (c .before .before .before .before .before .before .before .before .before .before .call-at .ensures) refl) (k .before .calls .inv .0))
+    (call-last (rewritten (operations-done _ _ _ _ _ _ _ _ _ (l .loop-test .left)) (l .before .loop .inv .0)) (e .end-call .ensures _))
+    (c .match2 .keys2)
+
+pub run-calls-spec : {M : Type 1} → statement M
+run-calls-spec =
+    tie.close
+    (tie.spec
+    Inv-loop
+    μ-loop
+    Inv-calls
+    μ-calls
+    call-count-requires
+    calls-holds
+    call-at-requires
+    cast-end
+    cast-end-2
+    add-end
+    cast-j
+    loop-holds
+    operation-at-requires
+    add-operation
+    operation-requires
+    enum-known-outcome
+    moved-requires
+    add-j
+    loop-less
+    loop-again
+    end-call-requires
+    enum-known-outcome-2
+    add-k
+    calls-less
+    calls-again
+    same-length
+    same-length-2
+    returns
+    same-length-3
+    same-length-4
+    returns-2
+    same-length-5
+    same-length-6
+    returns-3)
