@@ -2,8 +2,8 @@ use borrow.Author.Needs.{needs}
 use Prim.Native.Nat.{_-_}
 use lib.ListN.{length}
 use mathlib.Core.Path.{_≡_}
-use Rattle.refusals.proofs.push_zeros.Statement.{statement}
-use Rattle.refusals.proofs.push_zeros.Tie as tie
+use Rattle.cases.proofs.push_zeros.Statement.{statement}
+use Rattle.cases.proofs.push_zeros.Tie as tie
 
 abbrev Inv-loop : tie.InvT-loop
 Inv-loop list₀ size count end₀ counter₀ list end counter = length list ≡ length list₀

@@ -2,17 +2,17 @@ use borrow.Author.Needs.{needs}
 use Prim.Native.Nat.{_-_}
 use lib.ListN.{length}
 use mathlib.Core.Path.{_≡_}
-use Rattle.refusals.proofs.push_eight.Statement.{statement}
-use Rattle.refusals.proofs.push_eight.Tie as tie
+use Rattle.cases.proofs.repeat.Statement.{statement}
+use Rattle.cases.proofs.repeat.Tie as tie
 
 abbrev Inv-loop : tie.InvT-loop
-Inv-loop list₀ size end₀ counter₀ list end counter = length list ≡ length list₀
+Inv-loop list₀ size count end₀ counter₀ list end counter = length list ≡ length list₀
 
 abbrev μ-loop : tie.MeasureT-loop
-μ-loop list₀ size end₀ counter₀ list end counter = 8 - counter
+μ-loop list₀ size count end₀ counter₀ list end counter = count - counter
 
-pub push-eight-spec : {M : Type 1} → statement M
-push-eight-spec =
+pub repeat-spec : {M : Type 1} → statement M
+repeat-spec =
     tie.close
     (tie.spec
     Inv-loop

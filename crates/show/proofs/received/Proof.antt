@@ -1,23 +1,26 @@
 use borrow.Author.Needs.{needs}
 use Prim.Native.Nat.{_-_}
-use Rattle.refusals.proofs.number.Statement.{statement}
-use Rattle.refusals.proofs.number.Tie as tie
+use lib.ListN.{length}
+use Rattle.show.proofs.received.Statement.{statement}
+use Rattle.show.proofs.received.Tie as tie
 
 abbrev Inv-loop : tie.InvT-loop
-Inv-loop text from to n₀ at₀ n at = Unit {0}
+Inv-loop bytes i₀ i = Unit {0}
 
 abbrev μ-loop : tie.MeasureT-loop
-μ-loop text from to n₀ at₀ n at = to - at
+μ-loop bytes i₀ i = length bytes - i
 
-pub number-spec : {M : Type 1} → statement M
-number-spec =
+pub received-spec : {M : Type 1} → statement M
+received-spec =
     tie.close
     (tie.spec
     Inv-loop
     μ-loop
     (λ c. search needs)
-    (λ c. search needs)
     (λ c κs. search needs)
+    (λ c. search needs)
+    (λ c. search needs)
+    (λ c. search needs)
     (λ c κs. search needs)
     (λ c. search needs)
     (λ c. search needs)

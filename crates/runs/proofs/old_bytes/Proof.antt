@@ -1,23 +1,22 @@
 use borrow.Author.Needs.{needs}
 use Prim.Native.Nat.{_-_}
-use lib.ListN.{length}
-use Rattle.refusals.proofs.word_end.Statement.{statement}
-use Rattle.refusals.proofs.word_end.Tie as tie
+use Rattle.runs.proofs.old_bytes.Statement.{statement}
+use Rattle.runs.proofs.old_bytes.Tie as tie
 
 abbrev Inv-loop : tie.InvT-loop
-Inv-loop text from at₀ at = Unit {0}
+Inv-loop bytes from i₀ i-end i = Unit {0}
 
 abbrev μ-loop : tie.MeasureT-loop
-μ-loop text from at₀ at = length text - at
+μ-loop bytes from i₀ i-end i = i-end - i
 
-pub word-end-spec : {M : Type 1} → statement M
-word-end-spec =
+pub old-bytes-spec : {M : Type 1} → statement M
+old-bytes-spec =
     tie.close
     (tie.spec
     Inv-loop
     μ-loop
     (λ c. search needs)
-    (λ c. search needs)
+    (λ c κs. search needs)
     (λ c. search needs)
     (λ c. search needs)
     (λ c. search needs)

@@ -1,23 +1,24 @@
 use borrow.Author.Needs.{needs}
 use Prim.Native.Nat.{_-_}
-use lib.ListN.{length}
-use Rattle.refusals.proofs.word_start.Statement.{statement}
-use Rattle.refusals.proofs.word_start.Tie as tie
+use Rattle.runs.proofs.same_words.Statement.{statement}
+use Rattle.runs.proofs.same_words.Tie as tie
 
 abbrev Inv-loop : tie.InvT-loop
-Inv-loop text from at₀ comment₀ at comment = Unit {0}
+Inv-loop a b i₀ i-end i = Unit {0}
 
 abbrev μ-loop : tie.MeasureT-loop
-μ-loop text from at₀ comment₀ at comment = length text - at
+μ-loop a b i₀ i-end i = i-end - i
 
-pub word-start-spec : {M : Type 1} → statement M
-word-start-spec =
+pub same-words-spec : {M : Type 1} → statement M
+same-words-spec =
     tie.close
     (tie.spec
     Inv-loop
     μ-loop
     (λ c. search needs)
     (λ c. search needs)
+    (λ c κs. search needs)
+    (λ c κs. search needs)
     (λ c. search needs)
     (λ c. search needs)
     (λ c. search needs)

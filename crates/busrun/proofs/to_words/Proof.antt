@@ -2,24 +2,28 @@ use borrow.Author.Needs.{needs}
 use Prim.Native.Nat.{_-_}
 use lib.ListN.{length}
 use mathlib.Core.Path.{_≡_}
-use Rattle.refusals.proofs.push_number.Statement.{statement}
-use Rattle.refusals.proofs.push_number.Tie as tie
+use Rattle.busrun.proofs.to_words.Statement.{statement}
+use Rattle.busrun.proofs.to_words.Tie as tie
 
 abbrev Inv-loop : tie.InvT-loop
-Inv-loop list₀ size n width end₀ rest₀ counter₀ list end rest counter = length list ≡ length list₀
+Inv-loop bytes size words₀ k₀ words k = length words ≡ length words₀
 
 abbrev μ-loop : tie.MeasureT-loop
-μ-loop list₀ size n width end₀ rest₀ counter₀ list end rest counter = width - counter
+μ-loop bytes size words₀ k₀ words k = length words₀ - k
 
-pub push-number-spec : {M : Type 1} → statement M
-push-number-spec =
+pub to-words-spec : {M : Type 1} → statement M
+to-words-spec =
     tie.close
     (tie.spec
     Inv-loop
     μ-loop
     (λ c. search needs)
     (λ c. search needs)
+    (λ c. search needs)
+    (λ c. search needs)
     (λ c κs. search needs)
+    (λ c. search needs)
+    (λ c. search needs)
     (λ c. search needs)
     (λ c. search needs)
     (λ c. search needs)

@@ -1,0 +1,149 @@
+// Runs the bus list in `list.bin` on the readings in `readings.bin`, both in the current folder, and prints every
+// access, the received bytes and how the run ended.
+use engine::Counts;
+
+// What became of a file: its bytes, from the buffer's start, or a failure that has been reported.
+enum File {
+    Bytes(usize),
+    Failed,
+}
+
+// Reads on until the buffer is full or the file ends. A read that fails is no end: half a list would be another list.
+fn read_open(fd: i32, name: &[u8], buf: &mut [u8]) -> File {
+    let mut done: usize = 0;
+    while done < buf.len() {
+        let got = libc::read(fd, &mut buf[done..]);
+        if got < 0 {
+            os::fail(name);
+            return File::Failed;
+        }
+        let more = io::count(got, &buf[done..]);
+        if more == 0 {
+            return File::Bytes(done);
+        }
+        done += more;
+    }
+    File::Bytes(done)
+}
+
+// A file as far as the buffer holds it. One that is not there is empty.
+fn read_file(name: &[u8], buf: &mut [u8]) -> File {
+    let fd = os::open_read(name);
+    if fd < 0 {
+        if os::errno() == libc::ENOENT {
+            return File::Bytes(0);
+        }
+        os::fail(name);
+        return File::Failed;
+    }
+    let file = read_open(fd, name, buf);
+    libc::close(fd);
+    file
+}
+
+// The byte at `at`, 0 past the end.
+fn byte_at(bytes: &[u8], at: usize) -> u8 {
+    if at < bytes.len() { bytes[at] } else { 0 }
+}
+
+// The half word of the two bytes from `at` on, low byte first.
+fn half_at(bytes: &[u8], at: usize) -> u16 {
+    if bytes.len() <= at {
+        return 0;
+    }
+    byte_at(bytes, at) as u16 + 256 * (byte_at(bytes, at + 1) as u16)
+}
+
+// The word of the four bytes from `at` on, low byte first.
+fn word_at(bytes: &[u8], at: usize) -> u32 {
+    if bytes.len() <= at {
+        return 0;
+    }
+    half_at(bytes, at) as u32 + 65536 * (half_at(bytes, at + 2) as u32)
+}
+
+// The whole words among the first `size` bytes, as far as there is room. The answer is how many.
+fn to_words(bytes: &[u8], size: usize, words: &mut [u32]) -> usize {
+    let mut k: usize = 0;
+    while k < words.len() {
+        if size / 4 <= k {
+            return k;
+        }
+        words[k] = word_at(bytes, k * 4);
+        k += 1;
+    }
+    k
+}
+
+// The run of the list's first bytes on the first readings.
+fn run(
+    list: &[u8],
+    size: usize,
+    readings: &[u32],
+    count: usize,
+    rx: &mut [u8],
+    log: &mut [u32],
+) -> Counts {
+    if size <= list.len() {
+        if count <= readings.len() {
+            return engine::run(&list[..size], &readings[..count], rx, log);
+        }
+    }
+    engine::run(list, readings, rx, log)
+}
+
+// Access number `k` of the record, on a line of its own.
+fn print_access(log: &[u32], k: usize) -> bool {
+    if log.len() / 2 <= k {
+        return true;
+    }
+    show::access(log[2 * k], log[2 * k + 1]) && show::line_end()
+}
+
+fn print_accesses(log: &[u32], made: usize) -> bool {
+    for k in 0..made {
+        if !print_access(log, k) {
+            return false;
+        }
+    }
+    true
+}
+
+// The received bytes on one line; no line where there are none.
+fn print_received(rx: &[u8], got: usize) -> bool {
+    if got == 0 {
+        return true;
+    }
+    if rx.len() < got {
+        return true;
+    }
+    show::received(&rx[..got]) && show::line_end()
+}
+
+fn print_run(rx: &[u8], log: &[u32], c: Counts) -> bool {
+    print_accesses(log, c.made)
+        && print_received(rx, c.got)
+        && show::end(c.answer, c.calls, c.used, c.made, c.got)
+        && show::line_end()
+}
+
+fn main() {
+    let mut list = io::large_buffer();
+    let list_file = read_file(b"list.bin", &mut list);
+    let File::Bytes(size) = list_file else {
+        return;
+    };
+    let mut bytes = [0u8; 64000];
+    let readings_file = read_file(b"readings.bin", &mut bytes);
+    let File::Bytes(length) = readings_file else {
+        return;
+    };
+    let mut readings = [0u32; 16000];
+    let count = to_words(&bytes, length, &mut readings);
+    let mut rx = io::buffer();
+    let mut log = [0u32; 16000];
+    let c = run(&list, size, &readings, count, &mut rx, &mut log);
+    if !print_run(&rx, &log, c) {
+        os::fail(b"standard output");
+    }
+}
