@@ -133,3 +133,21 @@ module _ (s : Setup) (l : List ℕ) where
 -- the calls that are left, written otherwise
 pub left-rewritten : {s : Setup} {cs cs₁ cs₂ : List (List Step)} {st st₁ : State} {k : ℕ} → cs₁ ≡ cs₂ → Left s cs st k cs₁ st₁ → Left s cs st k cs₂ st₁
 left-rewritten e x = rw e at x
+
+-- the bring-up, before the calls
+module _ {s : Setup} {q : List Step} {st : State} {rs lg rx : List ℕ} {o : Outcome} (x : Refines s q st rs lg rx o) (f : State → Final) where
+  first-steps : resume s q st ≡ then (outcome rs lg rx o) (resume s [])
+  first-steps = rw append-nil at (x .is [])
+
+  -- it is cut short: the run ends there, before any call
+  pub first-stops : NotWell o → after-calls 0 (resume s q st) f ≡ final rs lg rx 0 o
+  first-stops h = rw first-steps (go o h)
+    where
+      go : (o : Outcome) → NotWell o → after-calls 0 (then (outcome rs lg rx o) (resume s [])) f ≡ final rs lg rx 0 o
+      go (Outcome.Well b) h = not-first h
+      go (Outcome.Failed a b) h = refl
+      go (Outcome.CutShort a b) h = refl
+
+  -- it is done: the run goes on with the calls
+  pub first-done : {b : Bus} → o ≡ Outcome.Well b → after-calls 0 (resume s q st) f ≡ f (at rs lg rx b)
+  first-done e = rw (first-steps, e, done-law, zero-add)

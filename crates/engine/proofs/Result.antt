@@ -42,13 +42,13 @@ unfolding left
 left-start rs lg rx = refl
 
 -- an accepted list, from the state that its run ends in
-pub accepted-meant : (l rs rx lg rx′ lg′ : List ℕ) (k : ℕ) (o : Outcome) → refusal l (length rx) ≡ 0
-    → after-calls 0 (resume (setup-of (settings-of l)) (bring-up (setup-of (settings-of l))) (at rs lg rx nothing-yet))
-    (calls-run (setup-of (settings-of l)) (map (steps-of (setup-of (settings-of l))) (calls-of l)))
-    ≡ final rs lg′ rx′ k o
+pub accepted-meant : (l rs rx lg : List ℕ) {rx′ lg′ : List ℕ} (k : ℕ) (o : Outcome) → refusal l (length rx) ≡ 0
+    → (s : Setup) → s ≡ setup-of (settings-of l)
+    → after-calls 0 (resume s (bring-up s) (at rs lg rx nothing-yet)) (calls-run s (map (steps-of s) (calls-of l))) ≡ final rs lg′ rx′ k o
     → Meant (run l rs (length rx) (length lg)) rx lg rx′ lg′ (ended-counts o k)
 unfolding run result accepted-run counts-of
-accepted-meant l rs rx lg rx′ lg′ k o ok e =
+accepted-meant l rs rx lg {rx′} {lg′} k o ok t f e′ =
+    let e = rw f at e′ in
     rw (eq-eqb _ _ ok)
     (go (whole-run s cs (entries-in (length lg)) rs) (received-fits l (length rx) ok s (entries-in (length lg)) rs) (whole-room s cs (entries-in (length lg)) rs)
     (sym e ∙ whole-run-is s cs (at rs lg rx nothing-yet) ∙ rw (room-start rs lg rx, left-start rs lg rx)))

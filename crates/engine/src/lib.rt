@@ -360,9 +360,12 @@ pub extern "C" fn bus_run(
     ensures { λ _. ⌜ HostMeant (run (now (list .entry)) (now (readings .entry)) (length (now (rx .entry))) (length (now (log .entry)))) (now (rx .entry)) (now (log .entry)) (now (rx .exit)) (now (log .exit)) (now (counts .exit)) ⌝ }
 {
     let c = run(list, readings, rx, log);
-    counts[0] = c.answer as u64;
-    counts[1] = c.calls as u64;
-    counts[2] = c.used as u64;
-    counts[3] = c.made as u64;
-    counts[4] = c.got as u64;
+    let all = [
+        c.answer as u64,
+        c.calls as u64,
+        c.used as u64,
+        c.made as u64,
+        c.got as u64,
+    ];
+    *counts = all;
 }

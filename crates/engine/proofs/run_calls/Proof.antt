@@ -93,8 +93,8 @@ loop-again c =
     let o = c .before .before .before .before .before .before .before .before in
     let t = c .before .before .before .before .before .before .before .before .before .before .before .before in (
       call-step (o .operation .ensures) _
-      (rewritten (operations-next _ _ _ _ _ _ _ _ _ (t .loop-test .taken) (c .before .before .before .before .before .before .before .before .before .before .before .operation-at .ensures) (c .moved .ensures)) (t .before .loop .inv .0))
-      (c .before .before .outcome .given .1),
+          (rewritten (operations-next _ _ _ _ _ _ _ _ _ (t .loop-test .taken) (c .before .before .before .before .before .before .before .before .before .before .before .operation-at .ensures) (c .moved .ensures)) (t .before .loop .inv .0))
+          (c .before .before .outcome .given .1),
       omega (arith, o .operation .kept),
       omega (arith, o .operation .kept),
       keeps-fewer (o .operation .ensures) (c .before .before .outcome .given .1) (t .before .loop .inv .3),
