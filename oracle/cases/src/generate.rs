@@ -1,5 +1,7 @@
 //! One case of a seed.
 
+use std::cell::RefCell;
+
 use buslist::{refusal, List};
 
 use crate::{damage, plans, Case, Feed, Rng, Style};
@@ -44,7 +46,8 @@ fn refused(rng: &mut Rng, list: Vec<u8>, rx: usize) -> Case {
     }
 }
 
-fn accepted(rng: &mut Rng, list: Vec<u8>, rx: usize) -> Case {
+/// A case of an accepted list: the readings of a simulated run, in part damaged, and a record long enough or cut.
+pub fn accepted(rng: &mut Rng, list: Vec<u8>, rx: usize) -> Case {
     let style = Style::random(rng);
     let (mut readings, record) = simulated(rng, &List::accepted(&list), style, rx);
     let mut words = record.len();
@@ -70,21 +73,23 @@ fn accepted(rng: &mut Rng, list: Vec<u8>, rx: usize) -> Case {
     }
 }
 
+thread_local! {
+    /// The record of simulated runs: kept, since clearing so much for each case would take most of the time.
+    static RECORD: RefCell<Vec<u32>> = RefCell::new(vec![0; SIMULATED]);
+}
+
 /// The readings of a simulated run, and its record.
-fn simulated(rng: &mut Rng, list: &List, style: Style, rx: usize) -> (Vec<u32>, Vec<u32>) {
+pub fn simulated(rng: &mut Rng, list: &List, style: Style, rx: usize) -> (Vec<u32>, Vec<u32>) {
     let mut readings = Vec::new();
-    let mut record = vec![0; SIMULATED];
     let mut feed = Feed::new(rng, style, &list.settings());
-    let counts = original::simulate(
-        list,
-        Box::new(|code, made| {
-            let word = feed.reading(code, made);
-            readings.push(word);
-            word
-        }),
-        &mut vec![0; rx],
-        &mut record,
-    );
-    record.truncate(2 * counts.made);
+    let made = Box::new(|code, record: &[u32]| {
+        let word = feed.reading(code, record);
+        readings.push(word);
+        word
+    });
+    let record = RECORD.with_borrow_mut(|record| {
+        let counts = original::simulate(list, made, &mut vec![0; rx], record);
+        record[..2 * counts.made].to_vec()
+    });
     (readings, record)
 }

@@ -13,13 +13,13 @@ mod tally;
 
 pub use feed::{Feed, Style};
 pub use files::write_case;
-pub use generate::generate;
+pub use generate::{accepted, generate, simulated};
 pub use judge::{judge, Ran};
-pub use plans::{call, plan, settings};
+pub use plans::plan;
 pub use rng::Rng;
 pub use shrink::shrink;
 pub use sweep::sweep;
-pub use tally::Tally;
+pub use tally::{ended_in, Tally};
 
 /// What a run is given.
 #[derive(Debug, Clone, PartialEq, Eq)]

@@ -4,6 +4,7 @@ use buslist::{limit, Mode, Plan, PlannedCall, PlannedOperation, Settings};
 
 use crate::Rng;
 
+/// A plan of a list that is accepted.
 pub fn plan(rng: &mut Rng) -> Plan {
     let settings = settings(rng);
     let kinds: &[u8] = match rng.below(10) {
@@ -28,7 +29,7 @@ pub fn plan(rng: &mut Rng) -> Plan {
     plan
 }
 
-pub fn settings(rng: &mut Rng) -> Settings {
+fn settings(rng: &mut Rng) -> Settings {
     let sysclk = match rng.below(8) {
         0 => 0,
         1 => 999_999,
@@ -86,7 +87,7 @@ fn timeout(rng: &mut Rng, sysclk: u32) -> u32 {
     }
 }
 
-pub fn call(rng: &mut Rng, kinds: &[u8]) -> PlannedCall {
+fn call(rng: &mut Rng, kinds: &[u8]) -> PlannedCall {
     let kind = rng.pick(kinds);
     // An empty polling read ends the run with Overrun: seldom, so that most runs come further.
     let polling_read = |rng: &mut Rng| match rng.below(40) {
@@ -150,7 +151,8 @@ fn lengthen(rng: &mut Rng, plan: &mut Plan) {
         address: 0x50,
         operations: vec![],
     };
-    plan.calls.truncate(limit::CALLS - 1);
+    // Few enough that the bytes written below fit the list.
+    plan.calls.truncate(6);
     plan.calls.push(transaction);
     let room = limit::OPERATIONS
         - plan
@@ -173,5 +175,19 @@ fn lengthen(rng: &mut Rng, plan: &mut Plan) {
         plan.calls[last]
             .operations
             .push(PlannedOperation::Write(rng.bytes(rest)));
+    }
+}
+
+#[cfg(test)]
+mod tests {
+    use super::*;
+
+    #[test]
+    fn plans_are_accepted() {
+        for case in 0..20_000 {
+            let plan = plan(&mut Rng::of(2, case));
+            let refused = buslist::refusal(&plan.bytes(), plan.read_together());
+            assert_eq!(refused, 0, "case {case}");
+        }
     }
 }

@@ -36,6 +36,16 @@ fn can_end(kind: usize, ending: usize) -> bool {
     }
 }
 
+/// The kind of the call that an accepted list's run ended in: none where it ended in the bring-up, or well.
+pub fn ended_in(case: &Case, ran: &Ran) -> Option<u8> {
+    // The bring-up is five accesses, and without them no call has begun.
+    let begun = ran.counts[3] >= 5;
+    let call = List::accepted(&case.list)
+        .calls()
+        .nth(ran.counts[1] as usize);
+    call.filter(|_| begun).map(|call| call.kind)
+}
+
 impl Tally {
     pub fn count(&mut self, case: &Case, ran: &Ran) {
         self.cases += 1;
@@ -50,17 +60,13 @@ impl Tally {
         if answer == 0 && well > 1 {
             self.several += 1;
         }
-        let mut calls = list.calls();
-        for call in calls.by_ref().take(well) {
+        for call in list.calls().take(well) {
             self.endings[usize::from(call.kind)][0] += 1;
         }
         if answer != 0 {
-            // The bring-up is five accesses, and without them no call has begun.
-            match calls.next() {
-                Some(call) if ran.counts[3] >= 5 => {
-                    self.endings[usize::from(call.kind)][answer as usize] += 1;
-                }
-                _ => self.bring_up[answer as usize] += 1,
+            match ended_in(case, ran) {
+                Some(kind) => self.endings[usize::from(kind)][answer as usize] += 1,
+                None => self.bring_up[answer as usize] += 1,
             }
         }
     }
