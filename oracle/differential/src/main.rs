@@ -30,14 +30,6 @@ fn main() -> ExitCode {
         }
     }
 
-    let mut swept = Tally::default();
-    for (number, case) in sweep().enumerate() {
-        if !agrees(&case, &mut swept) {
-            return report(&format!("case {number} of the sweep"), &case);
-        }
-    }
-    println!("sweep, every place of short runs: no difference\n{swept}");
-
     let mut tally = Tally::default();
     for number in 0..cases {
         let case = generate(seed, number);
@@ -46,6 +38,14 @@ fn main() -> ExitCode {
         }
     }
     println!("seed {seed}: no difference\n{tally}");
+
+    let mut swept = Tally::default();
+    for (number, case) in sweep().enumerate() {
+        if !agrees(&case, &mut swept) {
+            return report(&format!("case {number} of the sweep"), &case);
+        }
+    }
+    println!("sweep, every place of short runs: no difference\n{swept}");
     println!("{:.1} seconds", started.elapsed().as_secs_f64());
 
     let mut wrong = swept.impossible();
