@@ -190,7 +190,7 @@ pub fn damage_list(rng: &mut Rng, list: &mut Vec<u8>) {
                 }
             }
             _ => {
-                let value = rng.next() as u8;
+                let value = rng.draw() as u8;
                 if let Some(byte) = any_byte(rng, list) {
                     *byte = value;
                 }

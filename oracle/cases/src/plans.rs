@@ -81,7 +81,7 @@ fn timeout(rng: &mut Rng, sysclk: u32) -> u32 {
     match rng.below(10) {
         0 => 0,
         1 => most,
-        2 => (rng.next() % (u64::from(most) + 1)) as u32,
+        2 => (rng.draw() % (u64::from(most) + 1)) as u32,
         3 | 4 => rng.range(1, 12) as u32,
         _ => rng.range(200, 5_000) as u32,
     }

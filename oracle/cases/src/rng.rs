@@ -8,11 +8,11 @@ impl Rng {
     /// The numbers of one case of a seed, independent of every other case.
     pub fn of(seed: u64, case: u64) -> Rng {
         let mut rng = Rng { state: seed };
-        rng.state = rng.next() ^ case.wrapping_mul(0xD134_2543_DE82_EF95);
+        rng.state = rng.draw() ^ case.wrapping_mul(0xD134_2543_DE82_EF95);
         rng
     }
 
-    pub fn next(&mut self) -> u64 {
+    pub fn draw(&mut self) -> u64 {
         self.state = self.state.wrapping_add(0x9E37_79B9_7F4A_7C15);
         let z = self.state;
         let z = (z ^ z >> 30).wrapping_mul(0xBF58_476D_1CE4_E5B9);
@@ -21,12 +21,12 @@ impl Rng {
     }
 
     pub fn word(&mut self) -> u32 {
-        (self.next() >> 32) as u32
+        (self.draw() >> 32) as u32
     }
 
     /// 0 to `end` - 1.
     pub fn below(&mut self, end: usize) -> usize {
-        (u128::from(self.next()) * end as u128 >> 64) as usize
+        ((u128::from(self.draw()) * end as u128) >> 64) as usize
     }
 
     /// `low` to `high`, both among them.
@@ -43,6 +43,6 @@ impl Rng {
     }
 
     pub fn bytes(&mut self, length: usize) -> Vec<u8> {
-        (0..length).map(|_| self.next() as u8).collect()
+        (0..length).map(|_| self.draw() as u8).collect()
     }
 }

@@ -71,10 +71,6 @@ impl Tally {
         }
     }
 
-    pub fn accepted(&self) -> u64 {
-        self.accepted
-    }
-
     /// What there is too little of: fewer than 100 in 100,000 cases, or under a quarter of the accepted
     /// lists answering 0 with several calls.
     pub fn shortfalls(&self) -> Vec<String> {

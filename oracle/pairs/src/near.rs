@@ -29,7 +29,7 @@ pub fn miss(rng: &mut Rng, plan: &Plan, miss: usize) -> Option<Plan> {
         2 => {
             let bytes = any_write(rng, &mut calls[k])?;
             if rng.percent(50) {
-                bytes.push(rng.next() as u8);
+                bytes.push(rng.draw() as u8);
             } else {
                 bytes.pop();
             }
