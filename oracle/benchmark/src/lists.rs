@@ -22,7 +22,7 @@ pub fn rows() -> Vec<Row> {
         ("polling read", &[1]),
         ("blocking write", &[4]),
         ("blocking read", &[5]),
-        ("mixed", &[0, 5, 2, 4, 3, 6, 1]),
+        ("mixed", &[2, 4, 3, 5, 0, 6, 1]),
     ];
     let mut rows = Vec::new();
     for (name, kinds) in kinds {

@@ -232,21 +232,27 @@ pub fn simulate<T>(
     record: &mut [u32],
     body: impl FnOnce() -> T,
 ) -> (Result<T, Cut>, Usage) {
-    // SAFETY: only the lifetime is changed; the feed is dropped below, before it could end.
+    /// Takes the feed away however the run ends, a panic of the Rust included.
+    struct Fed;
+    impl Drop for Fed {
+        fn drop(&mut self) {
+            FEED.set(None);
+        }
+    }
+    // SAFETY: only the lifetime is changed, and `Fed` drops the feed before this function is left.
     let feed: Box<Feed<'static>> = unsafe { std::mem::transmute(feed) };
+    let _fed = Fed;
     FEED.set(Some(feed));
-    let ended = run(&[], record, body);
-    FEED.set(None);
-    ended
+    run(&[], record, body)
 }
 
 /// Runs `body` on readings and a record of its own, which no one sees, and goes on as before.
 pub fn aside<T>(body: impl FnOnce() -> T) -> T {
-    const ROOM: usize = 32;
+    let (readings, mut record) = ([0; 32], [0; 32]);
     let unseen = Device::idle();
+    unseen.lend(&readings, &mut record);
     DEVICE.with(|device| {
         device.swap(&unseen);
-        device.lend(&[0; ROOM], &mut [0; ROOM]);
         let value = body();
         device.swap(&unseen);
         value

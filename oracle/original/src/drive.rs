@@ -6,7 +6,7 @@ use embedded_hal::i2c::{I2c as Bus, Operation};
 
 use crate::i2c::{BlockingI2c, DutyCycle, Error, I2c, Mode, NoAcknowledgeSource};
 use crate::pac::I2C1;
-use crate::rcc::{Clocks, Rcc};
+use crate::rcc::Rcc;
 use crate::time::Hz;
 
 /// What a run returns.
@@ -41,7 +41,7 @@ pub fn simulate(list: &List, feed: Box<Feed>, rx: &mut [u8], record: &mut [u32])
 pub fn speed_words(pclk1: u32, mode: ListedMode, frequency: u32) -> [u32; 3] {
     let mut record = [0; 10];
     let (ended, _) = device::run(&[0], &mut record, || {
-        bring_up(mode, frequency, &mut rcc(pclk1, 0));
+        bring_up(mode, frequency, &mut Rcc::at(pclk1, 0));
     });
     ended.expect("a bring-up is five accesses, one of them a read");
     let [_, cr2, _, trise, _, ccr, ..] = record;
@@ -77,15 +77,6 @@ fn number(error: Error) -> u32 {
     }
 }
 
-fn rcc(pclk1: u32, sysclk: u32) -> Rcc {
-    Rcc {
-        clocks: Clocks {
-            pclk1: Hz(pclk1),
-            sysclk: Hz(sysclk),
-        },
-    }
-}
-
 fn bring_up(mode: ListedMode, frequency: u32, rcc: &mut Rcc) -> I2c<I2C1> {
     let frequency = Hz(frequency);
     let mode = match mode {
@@ -110,7 +101,7 @@ fn blocking(settings: &Settings, rcc: &mut Rcc) -> BlockingI2c<I2C1> {
 
 fn perform(list: &List, rx: &mut [u8], ended_well: &mut usize) -> Result<(), Error> {
     let settings = list.settings();
-    let mut rcc = rcc(settings.pclk1, settings.sysclk);
+    let mut rcc = Rcc::at(settings.pclk1, settings.sysclk);
     let mut polling = bring_up(settings.mode, settings.frequency, &mut rcc);
     let mut blocked = None;
     let mut operations = Vec::new();

@@ -1,11 +1,11 @@
 //! Clocks: the names that the sources use. Clock gating plays no part in a run.
 
 use crate::pac::{I2C1, I2C2};
-use crate::time::Hertz;
+use crate::time::{Hertz, Hz};
 
 pub struct Clocks {
-    pub(crate) pclk1: Hertz,
-    pub(crate) sysclk: Hertz,
+    pclk1: Hertz,
+    sysclk: Hertz,
 }
 
 impl Clocks {
@@ -21,6 +21,18 @@ impl Clocks {
 
 pub struct Rcc {
     pub clocks: Clocks,
+}
+
+impl Rcc {
+    /// With these clocks, in hertz.
+    pub fn at(pclk1: u32, sysclk: u32) -> Rcc {
+        Rcc {
+            clocks: Clocks {
+                pclk1: Hz(pclk1),
+                sysclk: Hz(sysclk),
+            },
+        }
+    }
 }
 
 pub trait Enable {
