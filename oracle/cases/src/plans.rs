@@ -183,11 +183,24 @@ mod tests {
     use super::*;
 
     #[test]
-    fn plans_are_accepted() {
+    fn plans_are_accepted_and_reach_the_limits() {
+        let mut reached = [false; 4];
         for case in 0..20_000 {
             let plan = plan(&mut Rng::of(2, case));
-            let refused = buslist::refusal(&plan.bytes(), plan.read_together());
+            let list = plan.bytes();
+            let refused = buslist::refusal(&list, plan.read_together());
             assert_eq!(refused, 0, "case {case}");
+            let operations: Vec<_> = plan
+                .calls
+                .iter()
+                .flat_map(|call| &call.operations)
+                .collect();
+            let longest = operations.iter().map(|operation| operation.len()).max();
+            reached[0] |= list.len() == limit::LIST_BYTES;
+            reached[1] |= plan.calls.len() == limit::CALLS;
+            reached[2] |= operations.len() == limit::OPERATIONS;
+            reached[3] |= longest == Some(limit::OPERATION_BYTES);
         }
+        assert_eq!(reached, [true; 4]);
     }
 }
