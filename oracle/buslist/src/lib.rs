@@ -1,0 +1,22 @@
+//! The bus list, read and written: from document 01 alone, with nothing of the engine.
+
+mod plan;
+mod refusal;
+mod view;
+
+pub use plan::{Plan, PlannedCall, PlannedOperation};
+pub use refusal::refusal;
+pub use view::{Call, List, Mode, Operation, Settings};
+
+/// The bytes of a header: sixteen 32-bit words.
+pub const HEADER: usize = 64;
+/// The bytes of a call, and of an operation.
+pub const ENTRY: usize = 8;
+
+/// The limits of cause 21.
+pub mod limit {
+    pub const LIST_BYTES: usize = 32_768;
+    pub const CALLS: usize = 256;
+    pub const OPERATIONS: usize = 1_024;
+    pub const OPERATION_BYTES: usize = 4_096;
+}

@@ -1,0 +1,232 @@
+//! Damage: to the readings of a run, to its buffers, and to lists.
+
+use buslist::{limit, Plan, PlannedCall, PlannedOperation};
+use device::code;
+
+use crate::{flag, Rng, START};
+
+/// A reading that every wait takes as what it waits for, to go on after damage.
+const WELL: u32 = flag::READY;
+
+/// The readings of a run that were SR1 words, by their place.
+struct Status {
+    all: Vec<usize>,
+    /// The first after each address byte.
+    after_address: Vec<usize>,
+}
+
+impl Status {
+    fn of(record: &[u32]) -> Status {
+        let mut status = Status {
+            all: vec![],
+            after_address: vec![],
+        };
+        let mut taken = 0;
+        let mut starting = false;
+        let mut addressed = false;
+        for entry in record.chunks_exact(2) {
+            match entry[0] {
+                code::WRITE_CR1 => starting |= entry[1] & START != 0,
+                code::WRITE_DR => addressed = std::mem::take(&mut starting),
+                code::READ_SR1 => {
+                    status.all.push(taken);
+                    if std::mem::take(&mut addressed) {
+                        status.after_address.push(taken);
+                    }
+                }
+                _ => {}
+            }
+            if entry[0] <= code::READ_CYC {
+                taken += 1;
+            }
+        }
+        status
+    }
+}
+
+/// Damages the readings of a run with this record.
+pub fn damage_readings(rng: &mut Rng, readings: &mut Vec<u32>, record: &[u32]) {
+    let status = Status::of(record);
+    for _ in 0..rng.pick(&[1, 1, 1, 2]) {
+        if readings.is_empty() {
+            return;
+        }
+        let any = rng.below(readings.len());
+        match rng.below(11) {
+            0..=3 => add_error_flags(rng, readings, &status.all),
+            4 | 5 => add_error_flags(rng, readings, &status.after_address),
+            6 => readings[any] = rng.word(),
+            7 => drop(readings.remove(any)),
+            8 => readings.insert(any, readings[any]),
+            9 => readings[any] = 0,
+            _ => readings[any] ^= 1 << rng.below(32),
+        }
+    }
+    // What comes after damage may take other readings than before: without these, most runs would only run out.
+    let more = rng.pick(&[0, 4, 40]);
+    readings.extend((0..more).map(|_| WELL));
+}
+
+/// One error flag or two, in one of the words at these places.
+fn add_error_flags(rng: &mut Rng, readings: &mut [u32], places: &[usize]) {
+    if places.is_empty() {
+        return;
+    }
+    let Some(word) = readings.get_mut(rng.pick(places)) else {
+        return;
+    };
+    for _ in 0..rng.range(1, 2) {
+        // AF has three endings to reach, by where it is met.
+        *word |= if rng.percent(25) {
+            flag::AF
+        } else {
+            rng.pick(&flag::ERRORS)
+        };
+    }
+}
+
+/// Brings a plan over a limit: cause 21.
+pub fn exceed(rng: &mut Rng, plan: &mut Plan) {
+    let idle = PlannedCall {
+        kind: 3,
+        width: 7,
+        address: 0x50,
+        operations: vec![],
+    };
+    let many = |operation: PlannedOperation, count: usize| PlannedCall {
+        operations: vec![operation; count],
+        ..idle.clone()
+    };
+    match rng.below(5) {
+        0 => plan.calls.extend(vec![idle; limit::CALLS + 1]),
+        1 => plan
+            .calls
+            .push(many(PlannedOperation::Read(0), limit::OPERATIONS + 1)),
+        2 => {
+            let length = rng.pick(&[limit::OPERATION_BYTES + 1, 65_535]);
+            plan.calls.push(many(PlannedOperation::Read(length), 1));
+        }
+        3 => {
+            let bytes = rng.bytes(limit::OPERATION_BYTES + 1);
+            plan.calls.push(many(PlannedOperation::Write(bytes), 1));
+        }
+        _ => {
+            let bytes = rng.bytes(limit::OPERATION_BYTES);
+            plan.calls.push(many(PlannedOperation::Write(bytes), 7));
+            let length = plan.bytes().len();
+            let rest = (limit::LIST_BYTES + 1).saturating_sub(length + 2 * buslist::ENTRY);
+            plan.calls
+                .push(many(PlannedOperation::Write(rng.bytes(rest)), 1));
+        }
+    }
+}
+
+/// Gives a plan one of the causes 22 to 25.
+pub fn forbid(rng: &mut Rng, plan: &mut Plan) {
+    match rng.below(4) {
+        0 => plan.settings.frequency = rng.pick(&[0, 400_001, u32::MAX, 800_000]),
+        1 => {
+            let mhz = rng.range(1, 4_294) as u32;
+            plan.settings.sysclk = (mhz * 1_000_000).saturating_add(rng.below(1_000_000) as u32);
+            let over = (u64::from(u32::MAX) / u64::from(mhz) + 1).min(u64::from(u32::MAX)) as u32;
+            let timeout = match rng.below(3) {
+                0 => &mut plan.settings.start_timeout,
+                1 => &mut plan.settings.address_timeout,
+                _ => &mut plan.settings.data_timeout,
+            };
+            *timeout = over.saturating_add(rng.pick(&[0, 1, 77]));
+        }
+        2 if !plan.calls.is_empty() => {
+            let any = rng.below(plan.calls.len());
+            let call = &mut plan.calls[any];
+            if rng.percent(50) {
+                call.width = 10;
+            } else {
+                call.address = rng.pick(&[128, 255, 256, 0x150, 65_535]);
+            }
+        }
+        _ => plan.calls.push(PlannedCall {
+            width: 7,
+            address: 0x50,
+            ..rng.percent(50).then(empty_write).unwrap_or_else(empty_read)
+        }),
+    }
+}
+
+fn empty_write() -> PlannedCall {
+    PlannedCall {
+        kind: 4,
+        width: 7,
+        address: 0,
+        operations: vec![PlannedOperation::Write(vec![])],
+    }
+}
+
+fn empty_read() -> PlannedCall {
+    PlannedCall {
+        kind: 5,
+        operations: vec![PlannedOperation::Read(0)],
+        ..empty_write()
+    }
+}
+
+/// Damages the bytes of a list.
+pub fn damage_list(rng: &mut Rng, list: &mut Vec<u8>) {
+    for _ in 0..rng.pick(&[1, 1, 2]) {
+        match rng.below(6) {
+            0 => {
+                let at = rng.below(list.len().max(1));
+                list.truncate(at);
+            }
+            1 => {
+                let more = rng.range(1, 9);
+                list.extend(rng.bytes(more));
+            }
+            2 => alter_word(rng, list),
+            3 => alter_entry(rng, list),
+            4 => {
+                if let Some(byte) = any_byte(rng, list) {
+                    *byte ^= 1 << rng.below(8);
+                }
+            }
+            _ => {
+                let value = rng.draw() as u8;
+                if let Some(byte) = any_byte(rng, list) {
+                    *byte = value;
+                }
+            }
+        }
+    }
+}
+
+fn any_byte<'a>(rng: &mut Rng, list: &'a mut [u8]) -> Option<&'a mut u8> {
+    let at = rng.below(list.len().max(1));
+    list.get_mut(at)
+}
+
+/// A header word: a little more or less, or an edge.
+fn alter_word(rng: &mut Rng, list: &mut [u8]) {
+    let at = 4 * rng.below(16);
+    let Some(bytes) = list.get_mut(at..at + 4) else {
+        return;
+    };
+    let word = u32::from_le_bytes((&*bytes).try_into().unwrap());
+    let altered = match rng.below(5) {
+        0 => word.wrapping_add(1),
+        1 => word.wrapping_sub(1),
+        2 => word.wrapping_add(8),
+        // Eight times this wraps to a multiple of 2^32: an offset would be right only modulo 2^32.
+        3 => word ^ 0x2000_0000,
+        _ => rng.pick(&[0, 1, 3, 255, 256, u32::MAX, 0x8000_0000]),
+    };
+    bytes.copy_from_slice(&altered.to_le_bytes());
+}
+
+/// A byte of a call or an operation: a small other number, as kinds, widths, directions and counts are.
+fn alter_entry(rng: &mut Rng, list: &mut [u8]) {
+    if list.len() > buslist::HEADER {
+        let entries = (list.len() - buslist::HEADER).min(256);
+        let at = buslist::HEADER + rng.below(entries);
+        list[at] = rng.pick(&[0, 1, 2, 3, 4, 5, 6, 7, 8, 10]);
+    }
+}

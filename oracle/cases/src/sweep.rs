@@ -1,0 +1,129 @@
+//! Cases by system, not by chance: short runs of every kind, cut at every place, with every error flag
+//! alone and in pairs at every reading, and with received buffers of every small size.
+
+use buslist::{Plan, PlannedCall, PlannedOperation, Settings};
+
+use crate::{flag, judge, Case, STOP};
+
+/// Every timeout, in microseconds and, at 1 MHz, in cycles.
+const LIMIT: u32 = 10;
+
+pub fn sweep() -> impl Iterator<Item = Case> {
+    plans().flat_map(|plan| variants(whole(&plan)))
+}
+
+fn write(length: u8) -> PlannedOperation {
+    PlannedOperation::Write((1..=length).collect())
+}
+
+fn plans() -> impl Iterator<Item = Plan> {
+    let read = PlannedOperation::Read;
+    let operations = vec![
+        (0, vec![write(0)]),
+        (0, vec![write(2)]),
+        (1, vec![read(0)]),
+        (1, vec![read(1)]),
+        (1, vec![read(2)]),
+        (2, vec![write(1), read(2)]),
+        (2, vec![write(0), read(0)]),
+        (3, vec![]),
+        (3, vec![read(1), write(1), write(0), read(0)]),
+        (3, vec![write(1), read(1), read(1)]),
+        (4, vec![write(1)]),
+        (4, vec![write(3)]),
+        (5, vec![read(1)]),
+        (5, vec![read(2)]),
+        (5, vec![read(3)]),
+        (5, vec![read(5)]),
+        (6, vec![write(0), read(0)]),
+        (6, vec![write(1), read(0)]),
+        (6, vec![write(0), read(1)]),
+        (6, vec![write(2), read(2)]),
+    ];
+    let settings = Settings {
+        sysclk: 1_000_000,
+        start_timeout: LIMIT,
+        start_retries: 2,
+        address_timeout: LIMIT,
+        data_timeout: LIMIT,
+        ..Settings::example()
+    };
+    operations.into_iter().map(move |(kind, operations)| {
+        let call = |kind, operations| PlannedCall {
+            kind,
+            width: 7,
+            address: 0x2A,
+            operations,
+        };
+        // A second call shows that nothing of the first is carried over.
+        Plan {
+            settings,
+            calls: vec![
+                call(kind, operations),
+                call(5, vec![PlannedOperation::Read(1)]),
+            ],
+        }
+    })
+}
+
+/// A run whose every wait is over at its first poll.
+fn whole(plan: &Plan) -> Case {
+    let mut case = Case {
+        list: plan.bytes(),
+        readings: vec![flag::READY; 200],
+        rx: plan.read_together(),
+        record: 400,
+    };
+    let ran = judge(&case);
+    case.readings.truncate(ran.counts[2] as usize);
+    case.record = 2 * ran.counts[3] as usize;
+    case
+}
+
+fn variants(case: Case) -> impl Iterator<Item = Case> {
+    let mut cases = Vec::new();
+    let mut add = |change: &dyn Fn(&mut Case)| {
+        let mut changed = case.clone();
+        change(&mut changed);
+        cases.push(changed);
+    };
+    for readings in 0..=case.readings.len() {
+        add(&|c| c.readings.truncate(readings));
+    }
+    for record in 0..=case.record + 3 {
+        add(&|c| c.record = record);
+    }
+    for rx in 0..=case.rx + 3 {
+        add(&|c| c.rx = rx);
+    }
+    for at in 0..case.readings.len() {
+        let later = |c: &mut Case| {
+            c.readings.extend([flag::READY; 60]);
+            c.record += 200;
+        };
+        // Not ready, STOP still there, bits above 16.
+        for word in [0, STOP, 0xFFFF_0000, 0xFFFF_00C7] {
+            add(&|c| {
+                c.readings[at] = word;
+                later(c);
+            });
+            // Then time passes, up to the limit and over it.
+            for cycles in LIMIT - 1..=LIMIT + 1 {
+                add(&|c| {
+                    c.readings[at] = word;
+                    c.readings.insert(at + 1, flag::READY + cycles);
+                    later(c);
+                });
+            }
+        }
+        for (one, first) in flag::ERRORS.iter().enumerate() {
+            for second in &flag::ERRORS[one..] {
+                add(&|c| {
+                    c.readings[at] |= first | second;
+                    later(c);
+                });
+            }
+        }
+    }
+    cases.into_iter()
+}

@@ -1,0 +1,261 @@
+//! Runs a whole bus list on the original: the bring-up once, then the calls in order.
+
+use buslist::{List, Mode as ListedMode, Operation as Listed, Settings};
+use device::{Cut, Feed, Usage};
+use embedded_hal::i2c::{I2c as Bus, Operation};
+
+use crate::i2c::{BlockingI2c, DutyCycle, Error, I2c, Mode, NoAcknowledgeSource};
+use crate::pac::I2C1;
+use crate::rcc::{Clocks, Rcc};
+use crate::time::Hz;
+
+/// What a run returns.
+#[derive(Debug, Clone, Copy, PartialEq, Eq)]
+pub struct Counts {
+    pub answer: u32,
+    /// Calls ended well.
+    pub calls: usize,
+    /// Readings used.
+    pub used: usize,
+    /// Accesses made.
+    pub made: usize,
+    /// Bytes received.
+    pub received: usize,
+}
+
+/// Runs an accepted list on these readings.
+pub fn run(list: &List, readings: &[u32], rx: &mut [u8], record: &mut [u32]) -> Counts {
+    let mut calls = 0;
+    let (ended, usage) = device::run(readings, record, || perform(list, rx, &mut calls));
+    counts(ended, calls, usage)
+}
+
+/// Runs an accepted list on readings that `feed` makes as they are asked for.
+pub fn simulate(list: &List, feed: Box<Feed>, rx: &mut [u8], record: &mut [u32]) -> Counts {
+    let mut calls = 0;
+    let (ended, usage) = device::simulate(feed, record, || perform(list, rx, &mut calls));
+    counts(ended, calls, usage)
+}
+
+/// The words that the bring-up writes to CR2, TRISE and CCR; the frequency is 1 to 400,000.
+pub fn speed_words(pclk1: u32, mode: ListedMode, frequency: u32) -> [u32; 3] {
+    let mut record = [0; 10];
+    let (ended, _) = device::run(&[0], &mut record, || {
+        bring_up(mode, frequency, &mut rcc(pclk1, 0));
+    });
+    ended.expect("a bring-up is five accesses, one of them a read");
+    let [_, cr2, _, trise, _, ccr, ..] = record;
+    [cr2, trise, ccr]
+}
+
+fn counts(ended: Result<Result<(), Error>, Cut>, calls: usize, usage: Usage) -> Counts {
+    Counts {
+        answer: match ended {
+            Ok(Ok(())) => 0,
+            Ok(Err(error)) => number(error),
+            Err(Cut::Readings) => 9,
+            Err(Cut::Record) => 10,
+        },
+        calls,
+        used: usage.used,
+        made: usage.made,
+        received: usage.received,
+    }
+}
+
+/// The number of an error among the ways in which a run can end.
+fn number(error: Error) -> u32 {
+    match error {
+        Error::Overrun => 1,
+        Error::NoAcknowledge(NoAcknowledgeSource::Address) => 2,
+        Error::NoAcknowledge(NoAcknowledgeSource::Data) => 3,
+        Error::NoAcknowledge(NoAcknowledgeSource::Unknown) => 4,
+        Error::Timeout => 5,
+        Error::Bus => 6,
+        Error::Crc => 7,
+        Error::ArbitrationLoss => 8,
+    }
+}
+
+fn rcc(pclk1: u32, sysclk: u32) -> Rcc {
+    Rcc {
+        clocks: Clocks {
+            pclk1: Hz(pclk1),
+            sysclk: Hz(sysclk),
+        },
+    }
+}
+
+fn bring_up(mode: ListedMode, frequency: u32, rcc: &mut Rcc) -> I2c<I2C1> {
+    let frequency = Hz(frequency);
+    let mode = match mode {
+        ListedMode::Standard => Mode::standard(frequency),
+        ListedMode::Fast2To1 => Mode::fast(frequency, DutyCycle::Ratio2to1),
+        ListedMode::Fast16To9 => Mode::fast(frequency, DutyCycle::Ratio16to9),
+    };
+    I2c::<I2C1>::new::<0>(I2C1, ((), ()), mode, rcc)
+}
+
+/// The blocking driver takes the polling one and never gives it back, and both hold settings alone. So
+/// it is a second one over the same device, whose own bring-up goes unseen: a run has one.
+fn blocking(settings: &Settings, rcc: &mut Rcc) -> BlockingI2c<I2C1> {
+    device::aside(|| bring_up(settings.mode, settings.frequency, rcc)).blocking(
+        settings.start_timeout,
+        settings.start_retries,
+        settings.address_timeout,
+        settings.data_timeout,
+        &rcc.clocks,
+    )
+}
+
+fn perform(list: &List, rx: &mut [u8], ended_well: &mut usize) -> Result<(), Error> {
+    let settings = list.settings();
+    let mut rcc = rcc(settings.pclk1, settings.sysclk);
+    let mut polling = bring_up(settings.mode, settings.frequency, &mut rcc);
+    let mut blocked = None;
+    let mut operations = Vec::new();
+    let mut rx = rx;
+    for call in list.calls() {
+        operations.clear();
+        for listed in list.operations(&call) {
+            operations.push(match listed {
+                Listed::Write(bytes) => Operation::Write(bytes),
+                Listed::Read(length) => {
+                    let (buffer, rest) = std::mem::take(&mut rx).split_at_mut(length);
+                    rx = rest;
+                    Operation::Read(buffer)
+                }
+            });
+        }
+        let address = call.address as u8;
+        if call.kind < 4 {
+            polling_call(&mut polling, call.kind, address, &mut operations)?;
+        } else {
+            let blocking = blocked.get_or_insert_with(|| blocking(&settings, &mut rcc));
+            blocking_call(blocking, call.kind, address, &mut operations)?;
+        }
+        *ended_well += 1;
+    }
+    Ok(())
+}
+
+fn polling_call(
+    i2c: &mut I2c<I2C1>,
+    kind: u8,
+    address: u8,
+    operations: &mut [Operation<'_>],
+) -> Result<(), Error> {
+    match (kind, &mut *operations) {
+        (0, [Operation::Write(bytes)]) => i2c.write(address, bytes),
+        (1, [Operation::Read(buffer)]) => i2c.read(address, buffer),
+        (2, [Operation::Write(bytes), Operation::Read(buffer)]) => {
+            i2c.write_read(address, bytes, buffer)
+        }
+        (3, _) => Bus::transaction(i2c, address, operations),
+        _ => panic!("not the operations of polling kind {kind}"),
+    }
+}
+
+fn blocking_call(
+    i2c: &mut BlockingI2c<I2C1>,
+    kind: u8,
+    address: u8,
+    operations: &mut [Operation<'_>],
+) -> Result<(), Error> {
+    match (kind, operations) {
+        (4, [Operation::Write(bytes)]) => i2c.write(address, bytes),
+        (5, [Operation::Read(buffer)]) => i2c.read(address, buffer),
+        (6, [Operation::Write(bytes), Operation::Read(buffer)]) => {
+            i2c.write_read(address, bytes, buffer)
+        }
+        _ => panic!("not the operations of blocking kind {kind}"),
+    }
+}
+
+#[cfg(test)]
+mod tests {
+    use super::*;
+    use buslist::{Plan, PlannedCall, PlannedOperation};
+
+    fn list(settings: Settings, kind: u8, operation: PlannedOperation) -> Vec<u8> {
+        let call = PlannedCall {
+            kind,
+            width: 7,
+            address: 0x50,
+            operations: vec![operation],
+        };
+        Plan {
+            settings,
+            calls: vec![call],
+        }
+        .bytes()
+    }
+
+    fn answer(list: &[u8], readings: &[u32]) -> (u32, usize) {
+        let counts = run(&List::accepted(list), readings, &mut [0; 8], &mut [0; 200]);
+        (counts.answer, counts.used)
+    }
+
+    /// Document 01's example, P1, access for access.
+    #[test]
+    fn the_example() {
+        let bytes = list(Settings::example(), 0, PlannedOperation::Write(vec![0x2A]));
+        let readings = [0, 1, 1, 1, 1, 3, 2, 7, 0x80, 0x84, 1, 1];
+        let mut record = [9; 44];
+        let counts = run(&List::accepted(&bytes), &readings, &mut [], &mut record);
+        let expected = [
+            12, 0x24, 14, 0x25, 13, 0xB4, 3, 0, 11, 1, 3, 1, 15, 0, 3, 1, 11, 0x101, 1, 1, 1, 1, 2,
+            3, 16, 0xA0, 1, 2, 2, 7, 1, 0x80, 16, 0x2A, 1, 0x84, 3, 1, 11, 0x201, 3, 1, 9, 9,
+        ];
+        assert_eq!(record, expected);
+        let expected = Counts {
+            answer: 0,
+            calls: 1,
+            used: 12,
+            made: 21,
+            received: 0,
+        };
+        assert_eq!(counts, expected);
+    }
+
+    /// P2 to P5.
+    #[test]
+    fn speeds() {
+        assert_eq!(
+            speed_words(36_000_000, ListedMode::Fast2To1, 400_000)[1..],
+            [11, 0x801E]
+        );
+        assert_eq!(
+            speed_words(36_000_000, ListedMode::Fast16To9, 400_000)[2],
+            0xC003
+        );
+        assert_eq!(speed_words(2_000_000, ListedMode::Standard, 400_000)[2], 4);
+        assert_eq!(
+            speed_words(64_000_000, ListedMode::Standard, 100_000)[..2],
+            [0, 1]
+        );
+    }
+
+    /// P8: the wait begins at 4,294,967,290, and now it is 4.
+    #[test]
+    fn timeouts_wrap() {
+        let mut settings = Settings::example();
+        settings.sysclk = 1_000_000;
+        settings.address_timeout = 10;
+        let readings = [0, 0, 4_294_967_290, 0, 4, 0];
+        let ten = list(settings, 4, PlannedOperation::Write(vec![1]));
+        assert_eq!(answer(&ten, &readings), (5, 5));
+        settings.address_timeout = 11;
+        let eleven = list(settings, 4, PlannedOperation::Write(vec![1]));
+        assert_eq!(answer(&eleven, &readings), (9, 6));
+    }
+
+    /// P9: SR1 0C00 hex.
+    #[test]
+    fn both_flags() {
+        let polling = list(Settings::example(), 0, PlannedOperation::Write(vec![1]));
+        assert_eq!(answer(&polling, &[0, 0, 0, 0xC00]), (1, 4));
+        let blocking = list(Settings::example(), 4, PlannedOperation::Write(vec![1]));
+        assert_eq!(answer(&blocking, &[0, 0, 0, 0xC00, 0]), (2, 5));
+    }
+}

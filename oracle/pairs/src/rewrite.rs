@@ -1,0 +1,90 @@
+//! Another list with equal reduced calls.
+
+use buslist::{limit, Plan, PlannedCall, PlannedOperation};
+use cases::Rng;
+
+/// A plan with the same reduced calls; often other kinds and operations.
+pub fn alike(rng: &mut Rng, plan: &Plan) -> Plan {
+    let mut other = plan.clone();
+    for call in &mut other.calls {
+        // Two in ten stay as they are.
+        if rng.percent(80) {
+            *call = if call.kind > 3 {
+                blocking(rng, call)
+            } else {
+                polling(rng, call)
+            };
+        }
+    }
+    let operations: usize = other.calls.iter().map(|call| call.operations.len()).sum();
+    let within = operations <= limit::OPERATIONS && other.bytes().len() <= limit::LIST_BYTES;
+    let short = |operation: &PlannedOperation| operation.len() <= limit::OPERATION_BYTES;
+    if within
+        && other
+            .calls
+            .iter()
+            .flat_map(|call| &call.operations)
+            .all(short)
+    {
+        other
+    } else {
+        plan.clone()
+    }
+}
+
+/// A transaction with its operations split and joined anew, or the plain call that it comes to.
+fn polling(rng: &mut Rng, call: &PlannedCall) -> PlannedCall {
+    let mut operations = Vec::new();
+    for operation in &call.operations {
+        push(rng, &mut operations, operation);
+    }
+    let kind = match operations[..] {
+        [PlannedOperation::Write(_)] => 0,
+        [PlannedOperation::Read(_)] => 1,
+        [PlannedOperation::Write(_), PlannedOperation::Read(_)] => 2,
+        _ => 3,
+    };
+    PlannedCall {
+        kind: if rng.percent(50) { kind } else { 3 },
+        operations,
+        ..call.clone()
+    }
+}
+
+/// Puts an operation after others: joined to the last, in two parts, beside an empty one, or as it is.
+fn push(rng: &mut Rng, operations: &mut Vec<PlannedOperation>, operation: &PlannedOperation) {
+    use PlannedOperation::{Read, Write};
+    let join = rng.percent(50);
+    let at = rng.below(operation.len() + 1);
+    match (operations.last_mut(), operation) {
+        (Some(Write(bytes)), Write(more)) if join => bytes.extend_from_slice(more),
+        (Some(Read(length)), Read(more)) if join => *length += more,
+        // The last part may not be an empty read: it would be the call's last operation.
+        (_, Read(length)) if at < *length && rng.percent(50) => {
+            operations.extend([Read(at), Read(length - at)])
+        }
+        (_, Write(bytes)) if rng.percent(50) => {
+            operations.extend([Write(bytes[..at].to_vec()), Write(bytes[at..].to_vec())])
+        }
+        _ => operations.push(operation.clone()),
+    }
+}
+
+/// A write_read with an empty half, or the plain call that it comes to.
+fn blocking(rng: &mut Rng, call: &PlannedCall) -> PlannedCall {
+    use PlannedOperation::{Read, Write};
+    let (kind, operations) = match &call.operations[..] {
+        [write @ Write(_)] => (6, vec![write.clone(), Read(0)]),
+        [read @ Read(_)] => (6, vec![Write(vec![]), read.clone()]),
+        [write @ Write(_), Read(0)] if rng.percent(70) => (4, vec![write.clone()]),
+        [Write(bytes), read @ Read(_)] if bytes.is_empty() && rng.percent(70) => {
+            (5, vec![read.clone()])
+        }
+        _ => return call.clone(),
+    };
+    PlannedCall {
+        kind,
+        operations,
+        ..call.clone()
+    }
+}
