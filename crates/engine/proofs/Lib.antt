@@ -13,3 +13,4 @@ pub mod Reduced
 pub mod Listed
 pub mod Demand3
 pub mod Witness
+pub mod Pass

@@ -369,3 +369,25 @@ pub extern "C" fn bus_run(
     ];
     *counts = all;
 }
+
+// The run, with the answer and the counts in the caller's struct, whatever it held.
+pub fn run_into(list: &[u8], readings: &[u32], rx: &mut [u8], log: &mut [u32], counts: &mut Counts)
+    ensures { λ _. ⌜ Meant (run (now (list .entry)) (now (readings .entry)) (length (now (rx .entry))) (length (now (log .entry)))) (now (rx .entry)) (now (log .entry)) (now (rx .exit)) (now (log .exit)) (now (counts .exit)) ⌝ }
+{
+    *counts = run(list, readings, rx, log);
+}
+
+// The run, by a struct that is lent to be changed in place.
+pub fn run_counted(list: &[u8], readings: &[u32], rx: &mut [u8], log: &mut [u32]) -> Counts
+    ensures { λ c. ⌜ Meant (run (now (list .entry)) (now (readings .entry)) (length (now (rx .entry))) (length (now (log .entry)))) (now (rx .entry)) (now (log .entry)) (now (rx .exit)) (now (log .exit)) c ⌝ }
+{
+    let mut counts = Counts {
+        answer: 0,
+        calls: 0,
+        used: 0,
+        made: 0,
+        got: 0,
+    };
+    run_into(list, readings, rx, log, &mut counts);
+    counts
+}

@@ -1,0 +1,17 @@
+use borrow.Author.Needs.{needs}
+use native.Mathlib.Omega.{arith}
+use mathlib.Core.Path.{sym}
+use lib.Seq.{length-take-le}
+use Rattle.replay.proofs.first_words.Statement.{statement}
+use Rattle.replay.proofs.first_words.Tie as tie
+
+slice-aggregate-result : tie.Need-slice-aggregate-result
+slice-aggregate-result c = sym (length-take-le _ _ (omega arith))
+
+pub first-words-spec : {M : Type 1} → statement M
+first-words-spec =
+    tie.close
+    (tie.spec
+    slice-aggregate-result
+    (λ c. search needs)
+    (λ c. search needs))
