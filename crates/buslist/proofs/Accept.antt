@@ -7,7 +7,7 @@ use mathlib.Core.List.{List, [], _∷_, _++_, List·Memᴰ, List·Memᴰ·head, 
 use mathlib.Core.Bool.{Bool, true, false, or-false, and-eq-true-iff, false≢true, cond, _&&_, _||_}
 use native.Mathlib.Nat.{add-zero, zero-add}
 use native.Mathlib.Omega.{arith}
-use borrow.Author.Tests.{ltb-false, leb-true, leb-false, eqb-true, eqb-false, not-false, eq-eqb, ne-eqb, le-leb, lt-leb, le-ltb}
+use borrow.Author.Tests.{ltb-false, leb-true, leb-false, eqb-true, eqb-false, not-false, eq-eqb, ne-eqb, le-leb, lt-leb}
 use lib.ListN.{length, take, drop}
 use lib.Dec.{eqb, leb, lit<}
 use Rattle.units.specs.declared.Settings.{Settings}
@@ -79,12 +79,6 @@ accepted l rx ok =
       blocking = e6 .0;
       room = ltb-false _ _ (e7 .0);
     }
-
--- and the other way round
-pub not-refused : (l : List ℕ) (rx : ℕ) → Accepted l rx → refusal l rx ≡ 0
-unfolding refusal causes first-cause
-not-refused l rx a =
-    rw (a .form, a .limits, a .frequency, a .timeouts, a .addresses, a .blocking, le-ltb _ _ (a .room))
 
 -- entry k of a table is one of its entries
 module _ {A : Type 0} (entry : ℕ → A) where

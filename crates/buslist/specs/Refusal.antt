@@ -1,7 +1,7 @@
 -- The causes that refuse a list before any access (document 01, "How a run can end"), in rising order.
 use Prim.Native.Nat.{ℕ, _+_}
 use mathlib.Core.List.{List, [], _∷_}
-use mathlib.Core.Bool.{Bool, true, false, not, cond, _&&_, _||_}
+use mathlib.Core.Bool.{Bool, false, not, cond, _&&_, _||_}
 use lib.ListN.{length}
 use lib.Dec.{eqb, ltb}
 use Rattle.units.specs.declared.Hertz.{Hertz}

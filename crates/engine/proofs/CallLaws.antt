@@ -4,7 +4,7 @@ use Prim.Native.Nat.{ℕ, zero, suc, _+_, _-_, _≤_, _<_}
 use native.Mathlib.Omega.{arith}
 use native.Mathlib.Nat.{add-zero, zero-add, add-assoc, sub-zero}
 use mathlib.Core.Bool.{Bool, true, false}
-use mathlib.Core.Path.{_≡_, refl, sym, ap, _∙_}
+use mathlib.Core.Path.{_≡_, refl, _∙_}
 use mathlib.Core.List.{List, [], _∷_, _++_, map, append-nil}
 use lib.Dec.{eqb, leb}
 use borrow.Author.Tests.{eq-eqb, ne-eqb}
@@ -16,17 +16,16 @@ use Rattle.buslist.specs.Table.{call-count, call-at, operation-at, entries}
 use Rattle.buslist.proofs.Walk.{entries-step, entries-end}
 use Rattle.registers.specs.declared.Bus.{Bus}
 use Rattle.registers.specs.declared.Outcome.{Outcome}
-use Rattle.registers.specs.Access.{Ending}
 use Rattle.registers.specs.Machine.{Step}
-use Rattle.registers.specs.State.{State, After, at, resume, then}
-use Rattle.registers.specs.Contract.{Refines, outcome, ending-of}
+use Rattle.registers.specs.State.{State, at, resume, then}
+use Rattle.registers.specs.Contract.{Refines, outcome}
 use Rattle.registers.proofs.Laws.{done-law}
 use Rattle.registers.proofs.Steps.{NotWell, not-first}
 use Rattle.i2c.specs.declared.Previous.{Previous}
 use Rattle.i2c.specs.Polling.{polling-steps, is-last}
 use Rattle.blocking.specs.Blocking.{blocking-steps}
 use Rattle.engine.specs.Calls.{Engine, engine-of, early, steps-of, operations-steps, operation-steps, moved, end-steps}
-use Rattle.engine.specs.Whole.{Final, more-calls, after-calls, calls-run, bus-of, final, Ends, Left}
+use Rattle.engine.specs.Whole.{Final, more-calls, after-calls, calls-run, final, Ends, Left}
 
 -- no call is done yet
 pub calls-start : {s : Setup} {cs : List (List Step)} {st : State} → Left s cs st 0 cs st

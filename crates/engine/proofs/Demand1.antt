@@ -1,14 +1,14 @@
 -- Demand 1.
 -- Assumes nothing.
-use Prim.Native.Nat.{ℕ, zero, suc, _+_, _-_, _≤_, _<_}
+use Prim.Native.Nat.{ℕ, zero, suc, _+_, _-_, _≤_}
 use native.Mathlib.Omega.{arith}
 use native.Mathlib.Nat.{zero-add}
 use mathlib.Core.Bool.{Bool, true, false, cond, _&&_, and-eq-true-iff}
-use mathlib.Core.Path.{_≡_, refl, sym, ap, ap₂, _∙_}
+use mathlib.Core.Path.{_≡_, refl, _∙_}
 use mathlib.Core.List.{List, [], _∷_, _++_, map}
-use lib.ListN.{length, drop, length-drop, length-append}
+use lib.ListN.{length, drop, length-drop}
 use lib.Dec.{eqb·suc-zero}
-use borrow.Author.Tests.{eq-eqb, ne-eqb}
+use borrow.Author.Tests.{ne-eqb}
 use Rattle.units.specs.declared.Setup.{Setup}
 use Rattle.units.specs.Setup.{setup-of}
 use Rattle.buslist.specs.Table.{settings-of}
@@ -19,7 +19,7 @@ use Rattle.registers.specs.declared.Source.{Source}
 use Rattle.registers.specs.declared.Cut.{Cut}
 use Rattle.registers.specs.declared.Entry.{Entry}
 use Rattle.registers.specs.Access.{Ending, is-read, cut, entries-in, record-of, received-of, reads, number}
-use Rattle.registers.specs.Machine.{Step, Access, access, next, perform, no-room, exec, exec-on, exec-full, Run, whole-run, after-call, after-bring-up, bring-up, run as calls}
+use Rattle.registers.specs.Machine.{Step, Access, access, next, perform, no-room, exec, exec-on, exec-full, whole-run, after-call, after-bring-up, bring-up, run as calls}
 use Rattle.engine.specs.Calls.{steps-of}
 use Rattle.engine.specs.Run.{run, result, accepted-run, filled}
 use Rattle.engine.specs.Demand1.{known, answer, answered, Demand1}

@@ -1,10 +1,10 @@
 -- A run that ends in a state gives the counts and the buffers that the meaning has.
 -- Assumes nothing.
-use Prim.Native.Nat.{ℕ, _-_, _*_, _/_, _≤_}
+use Prim.Native.Nat.{ℕ, _-_, _≤_}
 use native.Mathlib.Omega.{arith}
 use native.Mathlib.Nat.{zero-add}
 use mathlib.Core.Path.{_≡_, refl, sym, ap, _∙_}
-use mathlib.Core.List.{List, [], map}
+use mathlib.Core.List.{List, map}
 use lib.ListN.{length}
 use lib.Seq.{sets}
 use borrow.Author.Tests.{eq-eqb, ne-eqb}
@@ -15,11 +15,9 @@ use Rattle.buslist.specs.Refusal.{refusal}
 use Rattle.buslist.specs.Meaning.{calls-of}
 use Rattle.registers.specs.declared.Bus.{Bus}
 use Rattle.registers.specs.declared.Outcome.{Outcome}
-use Rattle.registers.specs.Access.{entries-in, record-of, received-of, reads, number, Ending}
+use Rattle.registers.specs.Access.{entries-in, record-of, received-of, reads, number}
 use Rattle.registers.specs.Machine.{Step, Run, whole-run, bring-up}
-use Rattle.registers.specs.State.{State, at, room, left, replay, resume}
-use Rattle.registers.specs.Contract.{ending-of}
-use Rattle.engine.specs.declared.Counts.{Counts}
+use Rattle.registers.specs.State.{at, room, left, resume}
 use Rattle.engine.specs.Calls.{steps-of}
 use Rattle.engine.specs.Whole.{nothing-yet, Final, after-calls, calls-run, bus-of, final}
 use Rattle.engine.specs.Run.{run, result, accepted-run, counts-of, filled, Meant, ended-counts}

@@ -1,27 +1,22 @@
 -- A run's states and its log: the run that the machine makes, on the caller's buffers.
 -- Assumes nothing.
-use Prim.Native.Nat.{ℕ, zero, suc, _+_, _-_, _*_, _≤_, _<_}
+use Prim.Native.Nat.{ℕ, zero, suc, _+_, _-_, _*_, _≤_}
 use native.Mathlib.Omega.{arith}
 use native.Mathlib.Numerals.{add-one}
-use native.Mathlib.Nat.{add-zero, zero-add, add-assoc}
+use native.Mathlib.Nat.{add-zero, zero-add}
 use mathlib.Core.Bool.{Bool, true, false, cond}
-use mathlib.Core.Path.{_≡_, refl, sym, ap, subst, _∙_}
-use mathlib.Core.List.{List, [], _∷_, _++_, map, append-assoc, append-nil}
+use mathlib.Core.Path.{_≡_, refl, sym, _∙_}
+use mathlib.Core.List.{List, [], _∷_, _++_}
 use lib.ListN.{length, set, drop, length-set, length-append}
 use lib.Seq.{drop-drop, sets, sets-eq}
-use lib.Dec.{eqb, leb}
 use Rattle.units.specs.declared.Setup.{Setup}
 use Rattle.registers.specs.declared.Bus.{Bus}
-use Rattle.registers.specs.declared.BusError.{BusError}
-use Rattle.registers.specs.declared.Cut.{Cut}
 use Rattle.registers.specs.declared.Entry.{Entry}
-use Rattle.registers.specs.declared.Outcome.{Outcome}
-use Rattle.registers.specs.Access.{Ending, cut, is-read, is-data, low-byte, store, entries-in, entry-words, record-of, reads, received-of}
-use Rattle.registers.specs.Machine.{Step, Access, access, next, perform, no-room, exec-full, exec-on, Ran, exec, Run, run, after-call, after-bring-up, whole-run, bring-up}
-use Rattle.registers.specs.State.{State, After, at, going, recorded, received, replay, room, left, after, resume}
-use Rattle.registers.specs.Contract.{Refines, Reaches, outcome, ending-of}
+use Rattle.registers.specs.Access.{Ending, cut, is-read, is-data, low-byte, store, record-of, reads, received-of}
+use Rattle.registers.specs.Machine.{Step, Access, access, next, perform, no-room, exec-full, exec-on, exec, Run, run, after-call, after-bring-up, whole-run, bring-up}
+use Rattle.registers.specs.State.{State, at, recorded, received, replay, room, left, after, resume}
 use Rattle.engine.specs.Run.{filled}
-use Rattle.engine.specs.Whole.{nothing-yet, Final, more-calls, after-calls, calls-run, bus-of, final, Ends, Left}
+use Rattle.engine.specs.Whole.{Final, after-calls, calls-run}
 
 replay-append : (a b : List Entry) (st : State) → replay (a ++ b) st ≡ replay b (replay a st)
 unfolding replay

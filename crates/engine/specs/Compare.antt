@@ -3,7 +3,6 @@ use Prim.Native.Nat.{ℕ, zero, suc, _+_}
 use mathlib.Core.Path.{_≡_}
 use mathlib.Core.List.{List, [], _∷_, _++_, map}
 use mathlib.Core.Bool.{Bool, true, false, _&&_, _||_}
-use lib.ListN.{length}
 use lib.Dec.{eqb}
 use Rattle.buslist.specs.Bytes.{word}
 use Rattle.buslist.specs.Refusal.{refusal, any}

@@ -8,7 +8,7 @@ use lib.Dec.{leb}
 use Rattle.buslist.specs.Refusal.{refusal}
 use Rattle.registers.specs.declared.Entry.{Entry}
 use Rattle.registers.specs.Access.{is-read, cut, entries-in, record-of, received-of, reads}
-use Rattle.engine.specs.Run.{Result, run, filled}
+use Rattle.engine.specs.Run.{run, filled}
 
 -- the numbers of document 01's table: 0 to 10, and 20 to 26
 abbrev pub known : ℕ → Bool

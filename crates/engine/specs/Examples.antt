@@ -8,7 +8,7 @@ use Rattle.buslist.specs.Form.{header-right, written, operation-right, operatio
 use Rattle.buslist.specs.Refusal.{any, over-limit, timeout-out, received, all-received, causes, first-cause, refusal}
 use Rattle.units.specs.declared.Setup.{Setup}
 use Rattle.units.specs.Setup.{setup-of}
-use Rattle.buslist.specs.Meaning.{Operation, write, read, Call, operation-of}
+use Rattle.buslist.specs.Meaning.{Operation, write, Call, operation-of}
 use Rattle.registers.specs.declared.Source.{Source}
 use Rattle.registers.specs.declared.BusError.{BusError}
 use Rattle.registers.specs.declared.Flagged.{Flagged}
@@ -17,7 +17,6 @@ use Rattle.registers.specs.Word.{has, with-bit, without-bit}
 use Rattle.registers.specs.Access.{cut, clear-word, record-of, reads, received-of, number}
 use Rattle.registers.specs.Machine.{Step, Handler, check-word, after-check, poll-word, since, next, handle, exec, exec-on, exec-full, perform, no-room, after-call, after-bring-up, whole-run, run as machine-run}
 use Rattle.i2c.specs.Polling.{write-bytes, last-read, turn, turn-write, turn-read, transfer, polling-steps}
-use Rattle.engine.specs.declared.Counts.{Counts}
 use Rattle.engine.specs.Calls.{engine-of, early, operations-steps, steps-of}
 use Rattle.engine.specs.Run.{Result, run, result, accepted-run, counts-of}
 use Rattle.engine.specs.Compare.{gather, joined, reduced-operations, reduced}

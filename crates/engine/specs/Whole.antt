@@ -1,5 +1,5 @@
 -- A whole run from a state, call by call: what the run's loops keep.
-use Prim.Native.Nat.{ℕ, suc, _+_}
+use Prim.Native.Nat.{ℕ, _+_}
 use mathlib.Core.Path.{_≡_}
 use mathlib.Core.List.{List, [], _∷_}
 use Rattle.units.specs.declared.Setup.{Setup}

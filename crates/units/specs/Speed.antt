@@ -1,9 +1,8 @@
 -- The speed words (document 01, "Bring-up"). M is pclk1 in whole megahertz.
 use Prim.Native.Nat.{ℕ, zero, suc, _+_, _*_, _/_, _%_}
-use mathlib.Core.Bool.{Bool, true, false, cond, _||_}
+use mathlib.Core.Bool.{Bool, cond, _||_}
 use lib.Dec.{eqb, leb, ltb}
 use Rattle.units.specs.declared.Hertz.{Hertz}
-use Rattle.units.specs.declared.DutyCycle.{DutyCycle}
 use Rattle.units.specs.declared.DutyCycle.the-variants.{Ratio2to1, Ratio16to9}
 use Rattle.units.specs.declared.Mode.{Mode}
 use Rattle.units.specs.declared.Mode.the-variants.{Standard, Fast}

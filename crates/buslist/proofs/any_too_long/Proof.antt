@@ -3,8 +3,8 @@ use Rattle.buslist.specs.Table.{entries, operations, operation-at}
 use Rattle.buslist.specs.Refusal.{any, too-long}
 use native.Mathlib.Omega.{arith}
 use borrow.Author.Needs.{needs}
-use mathlib.Core.Path.{_≡_, refl, sym, _∙_}
-use Prim.Native.Nat.{_+_, _-_, _*_, _≤_}
+use mathlib.Core.Path.{_≡_, sym, _∙_}
+use Prim.Native.Nat.{_-_}
 use native.Mathlib.Nat.{sub-zero}
 use Rattle.buslist.proofs.any_too_long.Statement.{statement}
 use Rattle.buslist.proofs.any_too_long.Tie as tie

@@ -1,5 +1,5 @@
 use Rattle.buslist.proofs.Walk.{byte-past}
-use mathlib.Core.Path.{_≡_, refl, sym, _∙_}
+use mathlib.Core.Path.{sym}
 use borrow.Author.Needs.{needs}
 use Rattle.buslist.proofs.byte_at.Statement.{statement}
 use Rattle.buslist.proofs.byte_at.Tie as tie

@@ -1,5 +1,5 @@
 use Prim.Native.Nat.{ℕ, zero, suc, _+_, _-_, min}
-use mathlib.Core.Path.{_≡_, refl}
+use mathlib.Core.Path.{_≡_}
 use mathlib.Core.List.{List, [], _∷_}
 use native.Mathlib.Nat.{zero-min, min-zero, suc-min-suc, zero-add, suc-add, sub-zero, suc-sub-suc}
 use lib.ListN.{length, take, drop}

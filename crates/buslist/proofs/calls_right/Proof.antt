@@ -4,8 +4,8 @@ use Rattle.buslist.specs.Form.{calls-right}
 use borrow.Author.Tests.{not-true, not-false}
 use native.Mathlib.Omega.{arith}
 use borrow.Author.Needs.{needs}
-use mathlib.Core.Path.{_≡_, refl, sym, _∙_}
-use Prim.Native.Nat.{_+_, _-_, _*_, _≤_}
+use mathlib.Core.Path.{_≡_, sym, _∙_}
+use Prim.Native.Nat.{_-_, _*_, _≤_}
 use native.Mathlib.Nat.{sub-zero}
 use Rattle.buslist.proofs.calls_right.Statement.{statement}
 use Rattle.buslist.proofs.calls_right.Tie as tie

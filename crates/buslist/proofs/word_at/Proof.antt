@@ -1,6 +1,6 @@
 use Rattle.buslist.proofs.Walk.{word-past}
 use Rattle.buslist.specs.Bytes.{word}
-use mathlib.Core.Path.{_≡_, refl, sym, _∙_}
+use mathlib.Core.Path.{sym}
 use borrow.Author.Needs.{needs}
 use Rattle.buslist.proofs.word_at.Statement.{statement}
 use Rattle.buslist.proofs.word_at.Tie as tie

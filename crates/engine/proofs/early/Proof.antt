@@ -1,4 +1,4 @@
-use mathlib.Core.Path.{_≡_, refl, sym, ap, _∙_}
+use mathlib.Core.Path.{refl}
 use Rattle.engine.specs.Calls.{early}
 use Rattle.engine.proofs.early.Statement.{statement}
 use Rattle.engine.proofs.early.Tie as tie

@@ -1,7 +1,7 @@
 use Rattle.registers.proofs.Steps.{here, ends-well}
 use Rattle.engine.specs.Calls.{end-steps}
 use Rattle.engine.proofs.CallLaws.{is-polling-kind, is-blocking-kind}
-use mathlib.Core.Path.{_≡_, refl, sym, ap, _∙_}
+use mathlib.Core.Path.{sym, _∙_}
 use borrow.Author.Needs.{needs}
 use Rattle.engine.proofs.end_call.Statement.{statement}
 use Rattle.engine.proofs.end_call.Tie as tie

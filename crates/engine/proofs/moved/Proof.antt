@@ -8,7 +8,7 @@ use mathlib.Core.Bool.{true, false}
 use mathlib.Core.List.{[], _∷_}
 use Prim.Native.Nat.{ℕ, zero, suc}
 use native.Mathlib.Omega.{arith}
-use mathlib.Core.Path.{_≡_, refl, sym, ap, _∙_}
+use mathlib.Core.Path.{_≡_, refl, sym, _∙_}
 use borrow.Author.Needs.{needs}
 use Rattle.engine.proofs.moved.Statement.{statement}
 use Rattle.engine.proofs.moved.Tie as tie

@@ -1,6 +1,6 @@
 use Rattle.engine.specs.Calls.{operation-steps}
 use Rattle.engine.proofs.CallLaws.{is-polling-kind, is-blocking-kind}
-use mathlib.Core.Path.{_≡_, refl, sym, ap, _∙_}
+use mathlib.Core.Path.{sym, _∙_}
 use borrow.Author.Needs.{needs}
 use Rattle.engine.proofs.operation.Statement.{statement}
 use Rattle.engine.proofs.operation.Tie as tie

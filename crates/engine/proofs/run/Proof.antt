@@ -1,5 +1,5 @@
 use Rattle.engine.proofs.Result.{refused-meant}
-use mathlib.Core.Path.{_≡_, refl, sym, ap, _∙_}
+use mathlib.Core.Path.{sym, _∙_}
 use borrow.Author.Needs.{needs}
 use Rattle.engine.proofs.run.Statement.{statement}
 use Rattle.engine.proofs.run.Tie as tie

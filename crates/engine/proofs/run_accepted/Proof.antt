@@ -5,7 +5,7 @@ use Rattle.buslist.proofs.Accept.{ranges}
 use Rattle.units.specs.Setup.{setup-of}
 use mathlib.Core.List.{[]}
 use native.Mathlib.Omega.{arith}
-use mathlib.Core.Path.{_≡_, refl, sym, ap, _∙_}
+use mathlib.Core.Path.{ap, _∙_}
 use borrow.Author.Needs.{needs}
 use Rattle.engine.proofs.run_accepted.Statement.{statement}
 use Rattle.engine.proofs.run_accepted.Tie as tie

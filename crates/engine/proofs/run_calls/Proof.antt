@@ -1,10 +1,9 @@
 -- The labelled loops: after k calls the calls from k on are left, and within a call its operations from j on.
-use Prim.Native.Nat.{ℕ, _+_, _-_, _≤_, _<_}
+use Prim.Native.Nat.{_-_, _≤_, _<_}
 use native.Mathlib.Omega.{arith}
-use mathlib.Core.Path.{_≡_, refl, sym}
-use mathlib.Core.List.{List, [], map}
+use mathlib.Core.Path.{_≡_, refl}
+use mathlib.Core.List.{[], map}
 use lib.ListN.{length}
-use lib.Dec.{eqb}
 use borrow.Author.Needs.{needs}
 use Rattle.buslist.specs.Table.{call-count, operation-at, entries}
 use Rattle.buslist.specs.Meaning.{operation-of, calls-of}

@@ -1,7 +1,7 @@
 use Prim.Native.Nat.{ℕ, zero, suc, _<_}
 use mathlib.Core.Bool.{false, or-true}
 use native.Mathlib.Omega.{arith}
-use mathlib.Core.Path.{_≡_, refl, sym, _∙_}
+use mathlib.Core.Path.{_≡_, sym, _∙_}
 use Rattle.engine.specs.Speed.{speed-out}
 use borrow.Author.Needs.{needs}
 use Rattle.engine.proofs.speed_ccr.Statement.{statement}
