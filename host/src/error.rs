@@ -1,0 +1,344 @@
+//! How a run can end other than well, with the scope paper's numbers and words.
+
+use std::fmt;
+
+use crate::run::Counts;
+
+/// A run that did not end well: why, and how far it came.
+///
+/// The counts are those up to the stop. A refused list has counts of zero, and both buffers are as
+/// they were.
+#[derive(Clone, Copy, Debug, PartialEq, Eq, Hash)]
+pub struct Error {
+    /// Why the run stopped.
+    pub cause: Cause,
+    /// What had been done by then.
+    pub counts: Counts,
+}
+
+/// Why a run stopped.
+///
+/// ```
+/// use vandhukril::{Cause, NoAcknowledge, Refusal};
+///
+/// assert_eq!(Cause::from_number(3), Some(Cause::NoAcknowledge(NoAcknowledge::Data)));
+/// assert_eq!(Cause::Refused(Refusal::Frequency).number(), 22);
+/// assert_eq!(Cause::from_number(0), None); // every call ended well
+/// ```
+#[derive(Clone, Copy, Debug, PartialEq, Eq, Hash)]
+pub enum Cause {
+    /// 1: OVR was set, or a polling read had no bytes to read.
+    Overrun,
+    /// 2 to 4: AF was set; its source says what had not been acknowledged.
+    NoAcknowledge(NoAcknowledge),
+    /// 5: TIMEOUT was set, or a blocking wait reached its limit.
+    Timeout,
+    /// 6: BERR was set in a blocking call.
+    Bus,
+    /// 7: PECERR was set.
+    Crc,
+    /// 8: ARLO was set.
+    ArbitrationLoss,
+    /// 9: the next access is a read and every reading is used.
+    ReadingsUsed,
+    /// 10: fewer than two record words remain for the next access.
+    RecordFull,
+    /// 20 to 26: the list was refused before any access.
+    Refused(Refusal),
+    /// A number that this crate does not know. The library linked is then another than this crate was written for.
+    Other(u32),
+}
+
+/// What had not been acknowledged.
+#[derive(Clone, Copy, Debug, PartialEq, Eq, Hash)]
+pub enum NoAcknowledge {
+    /// 2: the address. A polling write also answers this for an AF found before it sends a byte.
+    Address,
+    /// 3: a data byte.
+    Data,
+    /// 4: not known which.
+    Unknown,
+}
+
+/// Why a list was refused. The engine tests these in rising order and answers the first.
+#[derive(Clone, Copy, Debug, PartialEq, Eq, PartialOrd, Ord, Hash)]
+pub enum Refusal {
+    /// 20: the bytes are not of the form of a bus list.
+    Form,
+    /// 21: the list, its calls, its operations or one operation is over the limit.
+    Limit,
+    /// 22: the frequency is 0 or above 400,000 Hz.
+    Frequency,
+    /// 23: a timeout is too long for 32 bits of cycles.
+    Timeout,
+    /// 24: an address is ten-bit, or seven-bit and above 127.
+    Address,
+    /// 25: a blocking write or a blocking read has length 0.
+    EmptyBlocking,
+    /// 26: the received buffer is shorter than all reads together.
+    ReceivedBuffer,
+}
+
+impl Cause {
+    /// Every cause with a number of its own, in the order of their numbers.
+    pub const ALL: [Cause; 17] = [
+        Cause::Overrun,
+        Cause::NoAcknowledge(NoAcknowledge::Address),
+        Cause::NoAcknowledge(NoAcknowledge::Data),
+        Cause::NoAcknowledge(NoAcknowledge::Unknown),
+        Cause::Timeout,
+        Cause::Bus,
+        Cause::Crc,
+        Cause::ArbitrationLoss,
+        Cause::ReadingsUsed,
+        Cause::RecordFull,
+        Cause::Refused(Refusal::Form),
+        Cause::Refused(Refusal::Limit),
+        Cause::Refused(Refusal::Frequency),
+        Cause::Refused(Refusal::Timeout),
+        Cause::Refused(Refusal::Address),
+        Cause::Refused(Refusal::EmptyBlocking),
+        Cause::Refused(Refusal::ReceivedBuffer),
+    ];
+
+    /// The number that the engine answers for this cause.
+    pub const fn number(self) -> u32 {
+        match self {
+            Cause::Overrun => 1,
+            Cause::NoAcknowledge(NoAcknowledge::Address) => 2,
+            Cause::NoAcknowledge(NoAcknowledge::Data) => 3,
+            Cause::NoAcknowledge(NoAcknowledge::Unknown) => 4,
+            Cause::Timeout => 5,
+            Cause::Bus => 6,
+            Cause::Crc => 7,
+            Cause::ArbitrationLoss => 8,
+            Cause::ReadingsUsed => 9,
+            Cause::RecordFull => 10,
+            Cause::Refused(refusal) => refusal.number(),
+            Cause::Other(number) => number,
+        }
+    }
+
+    /// The cause of an answer; none for 0, with which every call ended well.
+    pub fn from_number(number: u32) -> Option<Cause> {
+        if number == 0 {
+            return None;
+        }
+        let known = Cause::ALL
+            .into_iter()
+            .find(|cause| cause.number() == number);
+        Some(known.unwrap_or(Cause::Other(number)))
+    }
+
+    /// The scope paper's words for this cause.
+    pub const fn words(self) -> &'static str {
+        match self {
+            Cause::Overrun => "Overrun",
+            Cause::NoAcknowledge(NoAcknowledge::Address) => "NoAcknowledge Address",
+            Cause::NoAcknowledge(NoAcknowledge::Data) => "NoAcknowledge Data",
+            Cause::NoAcknowledge(NoAcknowledge::Unknown) => "NoAcknowledge Unknown",
+            Cause::Timeout => "Timeout",
+            Cause::Bus => "Bus",
+            Cause::Crc => "Crc",
+            Cause::ArbitrationLoss => "ArbitrationLoss",
+            Cause::ReadingsUsed => "the next access is a read and every reading is used",
+            Cause::RecordFull => "fewer than two record words remain for the next access",
+            Cause::Refused(refusal) => refusal.words(),
+            Cause::Other(_) => "a number that this crate does not know",
+        }
+    }
+}
+
+impl Refusal {
+    /// The number that the engine answers for this refusal.
+    pub const fn number(self) -> u32 {
+        match self {
+            Refusal::Form => 20,
+            Refusal::Limit => 21,
+            Refusal::Frequency => 22,
+            Refusal::Timeout => 23,
+            Refusal::Address => 24,
+            Refusal::EmptyBlocking => 25,
+            Refusal::ReceivedBuffer => 26,
+        }
+    }
+
+    /// The scope paper's words for this refusal.
+    pub const fn words(self) -> &'static str {
+        match self {
+            Refusal::Form => "list not of the form",
+            Refusal::Limit => {
+                "list over 32,768 bytes, calls over 256, operations over 1,024, \
+                 an operation over 4,096 bytes"
+            }
+            Refusal::Frequency => "frequency 0 or above 400,000",
+            Refusal::Timeout => "a timeout times whole sysclk MHz above 4,294,967,295",
+            Refusal::Address => "ten-bit address, or seven-bit above 127",
+            Refusal::EmptyBlocking => {
+                "blocking write (kind 4) or blocking read (kind 5) of length 0"
+            }
+            Refusal::ReceivedBuffer => "received buffer shorter than all reads together",
+        }
+    }
+
+    /// A sentence for the person who wrote the list: what to change.
+    ///
+    /// [`explain`](crate::explain) says where in the list.
+    pub const fn advice(self) -> &'static str {
+        match self {
+            Refusal::Form => {
+                "Some count, offset, kind, direction or zero field is not what the rest of the list \
+                 makes it, so nothing in the list was taken as meant; correct the first such byte."
+            }
+            Refusal::Limit => {
+                "Split the list, or the operation: at most 32,768 bytes, 256 calls, 1,024 operations, \
+                 and 4,096 bytes in one operation."
+            }
+            Refusal::Frequency => "Set the bus frequency to 1 to 400,000 Hz.",
+            Refusal::Timeout => {
+                "Shorten the start, address or data timeout: its microseconds times the whole \
+                 megahertz of sysclk must not pass 4,294,967,295 cycles."
+            }
+            Refusal::Address => {
+                "Give every call a seven-bit address from 0 to 127, as it is before it is shifted \
+                 to make room for the direction bit."
+            }
+            Refusal::EmptyBlocking => {
+                "Take the empty blocking write or read out of the list, or give it at least one byte."
+            }
+            Refusal::ReceivedBuffer => {
+                "Run the list with a received buffer that holds the bytes of all its reads, or read less."
+            }
+        }
+    }
+}
+
+impl fmt::Display for Cause {
+    fn fmt(&self, f: &mut fmt::Formatter<'_>) -> fmt::Result {
+        match self {
+            Cause::Refused(refusal) => refusal.fmt(f),
+            cause => write!(f, "{} ({})", cause.words(), cause.number()),
+        }
+    }
+}
+
+impl fmt::Display for Refusal {
+    fn fmt(&self, f: &mut fmt::Formatter<'_>) -> fmt::Result {
+        write!(
+            f,
+            "refused: {} ({}). {}",
+            self.words(),
+            self.number(),
+            self.advice()
+        )
+    }
+}
+
+impl fmt::Display for Error {
+    fn fmt(&self, f: &mut fmt::Formatter<'_>) -> fmt::Result {
+        match self.cause {
+            // Its counts are all zero, and say nothing.
+            Cause::Refused(refusal) => refusal.fmt(f),
+            cause => write!(f, "{cause}, after {}", self.counts),
+        }
+    }
+}
+
+impl std::error::Error for Error {}
+
+/// A bus list whose numbers are too large for the fields that would hold them.
+///
+/// Each of these is far past the engine's own limits (cause 21).
+#[derive(Clone, Copy, Debug, PartialEq, Eq, Hash)]
+pub enum DoesNotFit {
+    /// A write is longer than the 65,535 bytes that a length field holds.
+    Write {
+        /// The call's place in the list, from 0.
+        call: usize,
+        /// The operation's place in the call, from 0.
+        operation: usize,
+        /// Its bytes.
+        length: usize,
+    },
+    /// The operations up to the end of this call are more than 16-bit fields number.
+    Operations {
+        /// The call's place in the list, from 0.
+        call: usize,
+    },
+    /// The tables or the data are longer than 32-bit fields tell.
+    Whole,
+}
+
+impl fmt::Display for DoesNotFit {
+    fn fmt(&self, f: &mut fmt::Formatter<'_>) -> fmt::Result {
+        match self {
+            DoesNotFit::Write {
+                call,
+                operation,
+                length,
+            } => write!(
+                f,
+                "call {call}, operation {operation}: a write of {length} bytes; a length field holds 65,535"
+            ),
+            DoesNotFit::Operations { call } => write!(
+                f,
+                "call {call}: its operations, or those before it, are more than the 65,535 that a field holds"
+            ),
+            DoesNotFit::Whole => f.write_str("the list is longer than its 32-bit fields can tell"),
+        }
+    }
+}
+
+impl std::error::Error for DoesNotFit {}
+
+#[cfg(test)]
+mod tests {
+    use super::*;
+
+    #[test]
+    fn numbers_are_those_of_the_paper() {
+        let numbers = Cause::ALL.map(Cause::number);
+        assert_eq!(
+            numbers,
+            [1, 2, 3, 4, 5, 6, 7, 8, 9, 10, 20, 21, 22, 23, 24, 25, 26]
+        );
+        for cause in Cause::ALL {
+            assert_eq!(Cause::from_number(cause.number()), Some(cause));
+        }
+    }
+
+    #[test]
+    fn other_numbers_are_kept() {
+        assert_eq!(Cause::from_number(0), None);
+        for number in [11, 19, 27, u32::MAX] {
+            assert_eq!(Cause::from_number(number), Some(Cause::Other(number)));
+        }
+    }
+
+    #[test]
+    fn a_stop_is_told_with_its_counts_and_a_refusal_with_advice() {
+        let counts = Counts {
+            calls: 1,
+            readings: 12,
+            accesses: 21,
+            received: 0,
+        };
+        let stopped = Error {
+            cause: Cause::NoAcknowledge(NoAcknowledge::Data),
+            counts,
+        };
+        assert_eq!(
+            stopped.to_string(),
+            "NoAcknowledge Data (3), after 1 calls ended well, 12 readings used, \
+             21 accesses made, 0 bytes received"
+        );
+        let refused = Error {
+            cause: Cause::Refused(Refusal::Frequency),
+            counts: Counts::default(),
+        };
+        assert_eq!(
+            refused.to_string(),
+            "refused: frequency 0 or above 400,000 (22). Set the bus frequency to 1 to 400,000 Hz."
+        );
+    }
+}
