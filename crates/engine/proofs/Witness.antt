@@ -5,13 +5,12 @@ use native.Mathlib.Omega.{arith}
 use mathlib.Core.Bool.{false}
 use mathlib.Core.Path.{_≡_, refl, ap}
 use mathlib.Core.List.{List, [], _∷_}
-use lib.ListN.{length}
 use Rattle.units.specs.Setup.{setup-of}
 use Rattle.buslist.specs.Bytes.{byte, half, word}
 use Rattle.buslist.specs.Table.{settings-of, call-at, operation-at, entries}
 use Rattle.buslist.specs.Form.{header-right, written, operation-right, operations-right, has-directions, kind-right, call-right, calls-right, of-the-form}
 use Rattle.buslist.specs.Refusal.{any, over-limit, timeout-out, received, all-received, causes, first-cause, refusal}
-use Rattle.buslist.specs.Meaning.{operation-of, calls-of}
+use Rattle.buslist.specs.Meaning.{Operation, write, read, operation-of, calls-of}
 use Rattle.registers.specs.Word.{has}
 use Rattle.registers.specs.Access.{cut, record-of, reads, number}
 use Rattle.registers.specs.Machine.{check-word, after-check, poll-word, start, poll-error, poll-ready, after-poll, next, perform, exec-on, exec, after-call, after-bring-up, whole-run}
@@ -20,7 +19,7 @@ use Rattle.i2c.specs.Polling.{write-bytes, last-read, turn-write, turn-read, tu
 use Rattle.blocking.specs.Blocking.{later-bytes, write-bytes-and-wait, write-without-stop, read-steps, close-after, blocking-steps}
 use Rattle.engine.specs.Calls.{engine-of, early, operations-steps, steps-of}
 use Rattle.engine.specs.Run.{accepted-run, result, run, counts-of}
-use Rattle.engine.specs.Compare.{gather, joined, dropped, reduced-operations, reduced, idle, ends-empty, polls-empty-read, settings-words, Accepted, Comparable, reduced-calls, SameRun}
+use Rattle.engine.specs.Compare.{gather, joined, dropped, reduced-operations, reduced, idle, ends-empty, polls-empty-read, settings-words, Accepted, Comparable, Reduced, reduced-calls, SameRun}
 use Rattle.engine.proofs.Demand3.{demand-3}
 
 -- small numbers of 32 bits
@@ -52,6 +51,13 @@ empty-half = list-of 6 2 2 (operation 0 2 0 (operation 1 0 0 (1 ∷ 2 ∷ [])))
 
 abbrev blocking-one : List ℕ
 blocking-one = list-of 4 1 2 (operation 0 2 0 (1 ∷ 2 ∷ []))
+
+-- both with another byte
+abbrev other-write : List ℕ
+other-write = list-of 0 1 2 (operation 0 2 0 (1 ∷ 3 ∷ []))
+
+abbrev blocking-other : List ℕ
+blocking-other = list-of 4 1 2 (operation 0 2 0 (1 ∷ 3 ∷ []))
 
 -- a read of length 0, and a transaction of one
 abbrev empty-read : List ℕ
@@ -91,14 +97,24 @@ pub record EndWell (l m readings : List ℕ) : Type 0 where
   pub ends : run l readings 0 100 .answer ≡ 0
   pub ends′ : run m readings 0 100 .answer ≡ 0
 
+-- two lists that are compared, with unlike reduced calls, and runs that end well
+pub record Unlike (l m readings : List ℕ) : Type 0 where
+  pub comparable : Comparable l m
+  pub accepted : Accepted l 0
+  pub accepted′ : Accepted m 0
+  pub unlike-calls : reduced-calls l ≡ reduced-calls m → ⊥
+  pub ends : run l readings 0 100 .answer ≡ 0
+  pub ends′ : run m readings 0 100 .answer ≡ 0
+
 pub record Witness : Type 0 where
   -- one pair for each engine
   pub polling-pair : Alike two-writes one-write
   pub polling-ends : EndWell two-writes one-write polled
   pub blocking-pair : Alike empty-half blocking-one
   pub blocking-ends : EndWell empty-half blocking-one timed
-  -- runs that end well with records that differ
-  pub unlike-records : record-of (run one-write polled 0 100 .log) ≡ record-of (run blocking-one timed 0 100 .log) → ⊥
+  -- one pair for each engine that its records tell apart
+  pub polling-unlike : Unlike one-write other-write polled
+  pub blocking-unlike : Unlike blocking-one blocking-other timed
   -- the exception: equal reduced calls, and the runs differ
   pub exception-pair : Alike empty-read empty-transaction
   pub unlike-runs : SameRun (run empty-read polled 0 100) (run empty-transaction polled 0 100) → ⊥
@@ -115,6 +131,29 @@ alike kinds settings busy busy′ accepted accepted′ calls =
       equal-calls = calls;
     }
 
+-- the bytes of a first operation
+abbrev bytes-of : List Operation → List ℕ
+bytes-of [] = []
+bytes-of (write bs ∷ os) = bs
+bytes-of (read n ∷ os) = []
+
+abbrev first-bytes : List Reduced → List ℕ
+first-bytes [] = []
+first-bytes (c ∷ cs) = bytes-of (c .operations)
+
+-- lists whose first operations have another second byte have unlike reduced calls
+unlike : {l m readings : List ℕ} → (byte (first-bytes (reduced-calls l)) 1 ≡ byte (first-bytes (reduced-calls m)) 1 → ⊥) → settings-words l ≡ settings-words m → any idle (calls-of l) ≡ false → any idle (calls-of m) ≡ false
+    → Accepted l 0 → Accepted m 0 → run l readings 0 100 .answer ≡ 0 → run m readings 0 100 .answer ≡ 0 → Unlike l m readings
+unlike bytes settings busy busy′ accepted accepted′ ends ends′ =
+    record {
+      comparable = record { settings = settings; busy = busy; busy′ = busy′ };
+      accepted = accepted;
+      accepted′ = accepted′;
+      unlike-calls = λ e. bytes (ap (λ cs. byte (first-bytes cs) 1) e);
+      ends = ends;
+      ends′ = ends′;
+    }
+
 pub witness : Witness
 unfolding performed
 witness =
@@ -123,7 +162,8 @@ witness =
       polling-ends = record { full = refl; full′ = refl; ends = refl; ends′ = refl };
       blocking-pair = alike (omega arith) refl refl refl refl refl refl;
       blocking-ends = record { full = refl; full′ = refl; ends = refl; ends′ = refl };
-      unlike-records = λ e. let n = ap length e in omega arith;
+      polling-unlike = unlike (omega arith) refl refl refl refl refl refl refl;
+      blocking-unlike = unlike (omega arith) refl refl refl refl refl refl refl;
       exception-pair = alike (omega arith) refl refl refl refl refl refl;
       unlike-runs = λ r. let n = ap (λ c. c .made) (r .counts) in omega arith;
     }
@@ -131,3 +171,8 @@ witness =
 -- so the runs of each pair are one
 pub one-run : {l m readings : List ℕ} → Alike l m → EndWell l m readings → SameRun (run l readings 0 100) (run m readings 0 100)
 one-run a e = demand-3 .same-run _ _ (a .comparable) (a .equal-calls) (e .full) (e .full′) _ 0 100 (a .accepted) (a .accepted′)
+
+-- and the records of two unlike lists differ
+pub unlike-records : {l m readings : List ℕ} → Unlike l m readings → record-of (run l readings 0 100 .log) ≡ record-of (run m readings 0 100 .log) → ⊥
+unlike-records u e =
+    u .unlike-calls (demand-3 .told-apart _ _ (u .comparable) _ _ 0 0 100 100 (u .accepted) (u .accepted′) (u .ends) (u .ends′) e)

@@ -55,7 +55,7 @@ pub fn init(readings: &[u32], log: &mut [u32], bus: Bus, setup: Setup) -> Outcom
     modify_cr1(readings, log, bus3, Bits(registers::PE, 0), Bits(0, 0))
 }
 
-// Software reset, then bring-up.
+// Software reset (SWRST and PE, then 0), then bring-up.
 pub fn reset(readings: &[u32], log: &mut [u32], bus: Bus, setup: Setup) -> Outcome
     ensures { λ r. ⌜ ((rx : List ℕ) → Refines setup (reset setup) (at (now (readings .entry)) (now (log .entry)) rx bus) (now (readings .entry)) (now (log .exit)) rx r) ⌝ }
 {
@@ -474,7 +474,7 @@ fn write_wo_prepare(readings: &[u32], log: &mut [u32], bus: Bus, bytes: &[u8]) -
     until_stop_clear(readings, log, bus2)
 }
 
-// Prepared for a write, where the operation before was none.
+// Prepared for a write, where the operation before was no write.
 fn turn_write(readings: &[u32], log: &mut [u32], bus: Bus, addr: u32, previous: Previous) -> Outcome
     requires { ⌜ addr < 128 ⌝ }
     ensures { λ r. ⌜ ((s : Setup) (rx : List ℕ) → Refines s (turn-write addr previous) (at (now (readings .entry)) (now (log .entry)) rx bus) (now (readings .entry)) (now (log .exit)) rx r) ⌝ }
@@ -485,7 +485,7 @@ fn turn_write(readings: &[u32], log: &mut [u32], bus: Bus, addr: u32, previous: 
     }
 }
 
-// Prepared for a read, where the operation before was none.
+// Prepared for a read, where the operation before was no read.
 fn turn_read(readings: &[u32], log: &mut [u32], bus: Bus, addr: u32, previous: Previous) -> Outcome
     requires { ⌜ addr < 128 ⌝ }
     ensures { λ r. ⌜ ((s : Setup) (rx : List ℕ) → Refines s (turn-read addr previous) (at (now (readings .entry)) (now (log .entry)) rx bus) (now (readings .entry)) (now (log .exit)) rx r) ⌝ }

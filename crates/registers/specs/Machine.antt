@@ -13,7 +13,7 @@ use Rattle.registers.specs.declared.Entry.{Entry}
 use Rattle.registers.specs.declared.Bits.{Bits}
 use Rattle.registers.specs.declared.Flagged.{Flagged}
 use Rattle.registers.specs.declared.Awaited.{Awaited}
-use Rattle.registers.specs.Word.{has, with-bits, without-bits, none, one, SB, BERR, ARLO, AF, OVR, PECERR, TIMEOUT, MSL, BUSY, PE, START, STOP}
+use Rattle.registers.specs.Word.{has, with-bits, without-bits, none, one, SB, BERR, ARLO, AF, OVR, PECERR, TIMEOUT, MSL, BUSY, PE, START, STOP, SWRST}
 use Rattle.registers.specs.Access.{SR1, SR2, CR1, CYC, wCR1, wCR2, wCCR, wTRISE, wSR1, cut, clear-word, reads, Ending, well, failed, cut-short}
 
 -- what a timed wait does with an error: end the call; end it, with STOP set before where it is a NoAcknowledge; or reset, with that many tries left
@@ -49,7 +49,7 @@ bring-up s = put wCR2 (s .cr2) ∷ put wTRISE (s .trise) ∷ put wCCR (s .ccr) �
 
 -- `reset`: CR1 8001 hex, then 0, then bring-up
 abbrev pub reset : Setup → List Step
-reset s = put wCR1 0x8001 ∷ put wCR1 0 ∷ bring-up s
+reset s = put wCR1 (SWRST + PE) ∷ put wCR1 0 ∷ bring-up s
 
 -- `send_start`: SR1 0, then set START
 abbrev pub send-start : Bits → List Step

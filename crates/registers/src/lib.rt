@@ -75,8 +75,6 @@ pub const ACK: u32 = 0x0400;
 
 pub const POS: u32 = 0x0800;
 
-pub const SWRST: u32 = 0x8000;
-
 // Where an acknowledge was missing.
 pub enum Source {
     Address,
