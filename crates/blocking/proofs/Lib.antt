@@ -1,2 +1,3 @@
+pub mod Mask
 pub mod Stops
 pub mod Waiting

@@ -92,9 +92,9 @@ read-two s = two-ready s ++ (two-bytes ++ two-end s)
 abbrev pub more-ready : List Step
 more-ready = Step.modify (one ACK) none ∷ read-status
 
-unfoldable pub first-bytes : Setup → ℕ → List Step
-first-bytes s zero = []
-first-bytes s (suc n) = receive s ++ first-bytes s n
+unfoldable pub receive-bytes : Setup → ℕ → List Step
+receive-bytes s zero = []
+receive-bytes s (suc n) = receive s ++ receive-bytes s n
 
 abbrev pub third-last : Setup → List Step
 third-last s = read-wait s BTF ∷ Step.modify none (one ACK) ∷ Step.get DR ∷ []
@@ -106,7 +106,7 @@ abbrev pub last-three : Setup → List Step
 last-three s = third-last s ++ (second-last ++ (receive s ++ finish-read s))
 
 abbrev pub read-more : Setup → ℕ → List Step
-read-more s n = more-ready ++ (first-bytes s n ++ last-three s)
+read-more s n = more-ready ++ (receive-bytes s n ++ last-three s)
 
 -- `read` by its length, once the address is sent
 unfoldable pub read-arm : Setup → ℕ → List Step

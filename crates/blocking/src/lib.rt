@@ -9,7 +9,6 @@ use registers::Bits;
 use registers::Bus;
 use registers::BusError;
 use registers::Checked;
-use registers::Cut;
 use registers::Flagged;
 use registers::Outcome;
 use registers::Source;
@@ -28,115 +27,75 @@ ghost use Prim.Native.Nat.{ℕ, _-_, _<_, _≤_};
 ghost use lib.ListN.{length};
 ghost use lib.Dec.{leb};
 ghost use Rattle.registers.specs.declared.Awaited.{Awaited};
-ghost use Rattle.registers.specs.Machine.{Step, Handler, handle, poll-word, polled-bit, since};
+ghost use Rattle.registers.specs.Machine.{Step, Handler, handle, next, poll-word, poll-error, polled-register, since};
 ghost use Rattle.registers.specs.Access.{wDR};
 ghost use Rattle.registers.specs.State.{at};
 ghost use Rattle.registers.specs.Contract.{Refines, Waits};
-ghost use Rattle.blocking.specs.Poll.{Polls, polled-of, failed-poll, waited-of};
-ghost use Rattle.blocking.specs.Blocking.{one-ready, more-ready, third-last, second-last, send-start-and-wait, send-addr-and-wait, later-bytes, read-status, write-bytes-and-wait, write-without-stop, close, receive, finish-read, read-one, two-ready, two-bytes, two-end, read-two, first-bytes, last-three, read-more, read-arm, read-steps, close-after};
-
-// What a poll answers.
-pub enum Polled {
-    Ready(Bus),
-    WouldBlock(Bus),
-    Failed(BusError, Bus),
-    CutShort(Cut, Bus),
-}
+ghost use Rattle.blocking.specs.Poll.{waited-flag, waited, over, failed-poll};
+ghost use Rattle.blocking.specs.Blocking.{one-ready, more-ready, third-last, second-last, send-start-and-wait, send-addr-and-wait, later-bytes, read-status, write-bytes-and-wait, write-without-stop, close, receive, finish-read, read-one, two-ready, two-bytes, two-end, read-two, receive-bytes, last-three, read-more, read-arm, read-steps, close-after};
 
 // The first error flag of an SR1 word, as a poll takes them.
-fn poll_error(word: u32, source: Source) -> Flagged
-    ensures { λ r. ⌜ r ≡ poll-word source word ⌝ }
+fn flag_error(sr1: u32, source: Source) -> Flagged
+    ensures { λ r. ⌜ r ≡ poll-word source sr1 ⌝ }
 {
-    if has(word, registers::BERR) {
+    if has(sr1, registers::BERR) {
         return Flagged::Error(BusError::Bus);
     }
-    if has(word, registers::ARLO) {
+    if has(sr1, registers::ARLO) {
         return Flagged::Error(BusError::ArbitrationLoss);
     }
-    if has(word, registers::AF) {
+    if has(sr1, registers::AF) {
         return Flagged::Error(BusError::NoAcknowledge(source));
     }
-    if has(word, registers::OVR) {
+    if has(sr1, registers::OVR) {
         return Flagged::Error(BusError::Overrun);
     }
     Flagged::Nothing
 }
 
-// A poll that was read, and found nothing as yet.
-fn polled_of(c: Checked) -> Polled
-    ensures { λ r. ⌜ r ≡ polled-of c ⌝ }
-{
-    match c {
-        Checked::Word(_, bus) => Polled::WouldBlock(bus),
-        Checked::Failed(e, bus) => Polled::Failed(e, bus),
-        Checked::CutShort(cut, bus) => Polled::CutShort(cut, bus),
-    }
-}
-
-// A poll whose error flag was cleared with this outcome.
-fn failed_poll(o: Outcome, error: BusError) -> Polled
-    ensures { λ r. ⌜ r ≡ failed-poll o error ⌝ }
-{
-    match o {
-        Outcome::Well(bus) => Polled::Failed(error, bus),
-        Outcome::Failed(e, bus) => Polled::Failed(e, bus),
-        Outcome::CutShort(cut, bus) => Polled::CutShort(cut, bus),
-    }
-}
-
-// A poll as the outcome of its wait.
-fn waited_of(p: Polled) -> Outcome
-    ensures { λ r. ⌜ r ≡ waited-of p ⌝ }
-{
-    match p {
-        Polled::Ready(bus) => Outcome::Well(bus),
-        Polled::WouldBlock(bus) => Outcome::Well(bus),
-        Polled::Failed(e, bus) => Outcome::Failed(e, bus),
-        Polled::CutShort(cut, bus) => Outcome::CutShort(cut, bus),
-    }
-}
-
-// One poll of SR1 for a flag.
-fn wait_for_flag(readings: &[u32], log: &mut [u32], bus: Bus, flag: u32, source: Source) -> Polled
-    requires { ⌜ 0 < flag ⌝ }
-    ensures { λ r. ⌜ ((rx : List ℕ) → Polls (Awaited.Flag flag source) (at (now (readings .entry)) (now (log .entry)) rx bus) (now (readings .entry)) (now (log .exit)) rx r) ⌝ }
-{
-    let c = registers::read(readings, log, bus, registers::SR1);
-    let Checked::Word(sr1, next) = c else {
-        return polled_of(c);
-    };
-    let flagged = poll_error(sr1, source);
-    if let Flagged::Error(error) = flagged {
-        return failed_poll(clear_flag(log, next, error), error);
-    }
-    if has(sr1, flag) {
-        return Polled::Ready(next);
-    }
-    Polled::WouldBlock(next)
-}
-
-// One poll of CR1 for STOP to clear.
-fn wait_for_stop(readings: &[u32], log: &mut [u32], bus: Bus) -> Polled
-    ensures { λ r. ⌜ ((rx : List ℕ) → Polls Awaited.Stop (at (now (readings .entry)) (now (log .entry)) rx bus) (now (readings .entry)) (now (log .exit)) rx r) ⌝ }
-{
-    let c = registers::read(readings, log, bus, registers::CR1);
-    let Checked::Word(cr1, next) = c else {
-        return polled_of(c);
-    };
-    if has(cr1, registers::STOP) {
-        return Polled::WouldBlock(next);
-    }
-    Polled::Ready(next)
-}
-
-// One poll for what a timed wait waits for.
-fn poll(readings: &[u32], log: &mut [u32], bus: Bus, awaited: Awaited) -> Polled
-    requires { ⌜ 0 < polled-bit awaited ⌝ }
-    ensures { λ r. ⌜ ((rx : List ℕ) → Polls awaited (at (now (readings .entry)) (now (log .entry)) rx bus) (now (readings .entry)) (now (log .exit)) rx r) ⌝ }
+// The error that a poll finds in the word that it read.
+fn poll_error(word: u32, awaited: Awaited) -> Flagged
+    ensures { λ r. ⌜ r ≡ poll-error awaited word ⌝ }
 {
     match awaited {
-        Awaited::Flag(flag, source) => wait_for_flag(readings, log, bus, flag, source),
-        Awaited::Stop => wait_for_stop(readings, log, bus),
+        Awaited::Flag(_, source) => flag_error(word, source),
+        Awaited::Stop => Flagged::Nothing,
+    }
+}
+
+// Whether an SR1 word has this flag and none of BERR, ARLO, AF and OVR: one test for all of them.
+fn wait_for_flag(sr1: u32, flag: u32) -> bool
+    requires { ⌜ waited-flag flag ≡ true ⌝ }
+    ensures { λ r. ⌜ ((source : Source) → r ≡ over (Awaited.Flag flag source) sr1) ⌝ }
+{
+    sr1 & (0x0f00 + flag) == flag
+}
+
+// Whether a CR1 word has STOP clear.
+fn wait_for_stop(cr1: u32) -> bool
+    ensures { λ r. ⌜ r ≡ over Awaited.Stop cr1 ⌝ }
+{
+    !has(cr1, registers::STOP)
+}
+
+// Whether a poll that read this word ends its wait well.
+fn wait_over(word: u32, awaited: Awaited) -> bool
+    requires { ⌜ waited awaited ≡ true ⌝ }
+    ensures { λ r. ⌜ r ≡ over awaited word ⌝ }
+{
+    match awaited {
+        Awaited::Flag(flag, _) => wait_for_flag(word, flag),
+        Awaited::Stop => wait_for_stop(word),
+    }
+}
+
+// The register that a poll reads.
+fn polled_register(awaited: Awaited) -> u32
+    ensures { λ r. ⌜ r ≡ polled-register awaited ⌝ }
+{
+    match awaited {
+        Awaited::Flag(_, _) => registers::SR1,
+        Awaited::Stop => registers::CR1,
     }
 }
 
@@ -147,36 +106,111 @@ fn timed_out(start: u32, now: u32, limit: Cycles) -> bool
     limit.0 <= std::num::wrapping_sub_u32(now, start) as u64
 }
 
-// A timed wait. Its error is left to the caller.
-fn busy_wait_cycles(
+// A poll whose error flag was cleared with this outcome.
+fn failed_poll(o: Outcome, error: BusError) -> Outcome
+    ensures { λ r. ⌜ r ≡ failed-poll o error ⌝ }
+{
+    match o {
+        Outcome::Well(bus) => Outcome::Failed(error, bus),
+        Outcome::Failed(e, bus) => Outcome::Failed(e, bus),
+        Outcome::CutShort(cut, bus) => Outcome::CutShort(cut, bus),
+    }
+}
+
+// The rest of a timed wait whose poll has read this word. Its error is left to the caller.
+fn busy_wait(
     readings: &[u32],
     log: &mut [u32],
     bus: Bus,
+    word: u32,
     awaited: Awaited,
+    start: u32,
     limit: Cycles,
 ) -> Outcome
-    requires { ⌜ 0 < polled-bit awaited ⌝ }
-    ensures { λ r. ⌜ ((s : Setup) (h : Handler) (rx : List ℕ) → Waits s h (Step.timed awaited (limit .0) h ∷ []) (at (now (readings .entry)) (now (log .entry)) rx bus) (now (readings .entry)) (now (log .exit)) rx r) ⌝ }
+    requires { ⌜ waited awaited ≡ true ⌝ }
+    ensures { λ r. ⌜ ((s : Setup) (h : Handler) (rx : List ℕ) → Waits s h (next s (Step.poll awaited (limit .0) h start) word) (at (now (readings .entry)) (now (log .entry)) rx bus) (now (readings .entry)) (now (log .exit)) rx r) ⌝ }
 {
-    let c = registers::read(readings, log, bus, registers::CYC);
-    let Checked::Word(start, next) = c else {
-        return outcome_of(c);
-    };
-    let mut bus = next;
-    loop {
-        let p = poll(readings, log, bus, awaited);
-        let Polled::WouldBlock(polled) = p else {
-            return waited_of(p);
+    let mut bus = bus;
+    let mut word = word;
+    while !wait_over(word, awaited) {
+        let flagged = poll_error(word, awaited);
+        if let Flagged::Error(error) = flagged {
+            return failed_poll(clear_flag(log, bus, error), error);
+        }
+        let c = registers::read(readings, log, bus, registers::CYC);
+        let Checked::Word(cycles, later) = c else {
+            return outcome_of(c);
         };
-        let d = registers::read(readings, log, polled, registers::CYC);
-        let Checked::Word(cycles, later) = d else {
+        if timed_out(start, cycles, limit) {
+            return Outcome::Failed(BusError::Timeout, later);
+        }
+        let d = registers::read(readings, log, later, polled_register(awaited));
+        let Checked::Word(again, next) = d else {
             return outcome_of(d);
         };
-        bus = later;
-        if timed_out(start, cycles, limit) {
-            return Outcome::Failed(BusError::Timeout, bus);
-        }
+        bus = next;
+        word = again;
     }
+    Outcome::Well(bus)
+}
+
+// A timed wait for a flag of SR1. Its error is left to the caller.
+fn busy_wait_flag(
+    readings: &[u32],
+    log: &mut [u32],
+    bus: Bus,
+    flag: u32,
+    source: Source,
+    limit: Cycles,
+) -> Outcome
+    requires { ⌜ waited-flag flag ≡ true ⌝ }
+    ensures { λ r. ⌜ ((s : Setup) (h : Handler) (rx : List ℕ) → Waits s h (Step.timed (Awaited.Flag flag source) (limit .0) h ∷ []) (at (now (readings .entry)) (now (log .entry)) rx bus) (now (readings .entry)) (now (log .exit)) rx r) ⌝ }
+{
+    let c = registers::read(readings, log, bus, registers::CYC);
+    let Checked::Word(start, bus1) = c else {
+        return outcome_of(c);
+    };
+    let d = registers::read(readings, log, bus1, registers::SR1);
+    let Checked::Word(sr1, bus2) = d else {
+        return outcome_of(d);
+    };
+    if wait_for_flag(sr1, flag) {
+        return Outcome::Well(bus2);
+    }
+    // A copy, so that bus2 is never in memory where the wait is over at once.
+    let waiting = Bus {
+        used: bus2.used,
+        made: bus2.made,
+        got: bus2.got,
+    };
+    let awaited = Awaited::Flag(flag, source);
+    let o = busy_wait(readings, log, waiting, sr1, awaited, start, limit);
+    o
+}
+
+// A timed wait for STOP to clear in CR1.
+fn busy_wait_stop(readings: &[u32], log: &mut [u32], bus: Bus, limit: Cycles) -> Outcome
+    ensures { λ r. ⌜ ((s : Setup) (h : Handler) (rx : List ℕ) → Waits s h (Step.timed Awaited.Stop (limit .0) h ∷ []) (at (now (readings .entry)) (now (log .entry)) rx bus) (now (readings .entry)) (now (log .exit)) rx r) ⌝ }
+{
+    let c = registers::read(readings, log, bus, registers::CYC);
+    let Checked::Word(start, bus1) = c else {
+        return outcome_of(c);
+    };
+    let d = registers::read(readings, log, bus1, registers::CR1);
+    let Checked::Word(cr1, bus2) = d else {
+        return outcome_of(d);
+    };
+    if wait_for_stop(cr1) {
+        return Outcome::Well(bus2);
+    }
+    // A copy, as for a flag.
+    let waiting = Bus {
+        used: bus2.used,
+        made: bus2.made,
+        got: bus2.got,
+    };
+    let o = busy_wait(readings, log, waiting, cr1, Awaited::Stop, start, limit);
+    o
 }
 
 // Start, at most retries times; the last answer holds.
@@ -191,11 +225,12 @@ fn send_start_and_wait(readings: &[u32], log: &mut [u32], bus: Bus, setup: Setup
         let Outcome::Well(started) = a else {
             return a;
         };
-        let w = busy_wait_cycles(
+        let w = busy_wait_flag(
             readings,
             log,
             started,
-            Awaited::Flag(registers::SB, Source::Unknown),
+            registers::SB,
+            Source::Unknown,
             limit,
         );
         let Outcome::Failed(error, failed) = w else {
@@ -249,13 +284,7 @@ fn send_addr_and_wait(
     let Outcome::Well(bus2) = b else {
         return b;
     };
-    let w = busy_wait_cycles(
-        readings,
-        log,
-        bus2,
-        Awaited::Flag(registers::ADDR, Source::Address),
-        limit,
-    );
+    let w = busy_wait_flag(readings, log, bus2, registers::ADDR, Source::Address, limit);
     let Outcome::Failed(error, bus3) = w else {
         return w;
     };
@@ -292,13 +321,7 @@ fn write_later(readings: &[u32], log: &mut [u32], bus: Bus, setup: Setup, bytes:
     let mut bus = bus;
     let mut i: usize = 0;
     while i < bytes.len() {
-        let w = busy_wait_cycles(
-            readings,
-            log,
-            bus,
-            Awaited::Flag(registers::TXE, Source::Data),
-            limit,
-        );
+        let w = busy_wait_flag(readings, log, bus, registers::TXE, Source::Data, limit);
         let Outcome::Well(ready) = w else {
             return w;
         };
@@ -332,13 +355,7 @@ fn write_bytes_and_wait(
     let Outcome::Well(bus2) = b else {
         return b;
     };
-    busy_wait_cycles(
-        readings,
-        log,
-        bus2,
-        Awaited::Flag(registers::BTF, Source::Data),
-        limit,
-    )
+    busy_wait_flag(readings, log, bus2, registers::BTF, Source::Data, limit)
 }
 
 // A write that leaves the bus open; an empty one does nothing.
@@ -379,7 +396,7 @@ fn close(readings: &[u32], log: &mut [u32], bus: Bus, setup: Setup) -> Outcome
     let Outcome::Well(next) = a else {
         return a;
     };
-    busy_wait_cycles(readings, log, next, Awaited::Stop, setup.data_limit)
+    busy_wait_stop(readings, log, next, setup.data_limit)
 }
 
 // The next byte of a read.
@@ -387,11 +404,12 @@ fn receive(readings: &[u32], log: &mut [u32], rx: &mut [u8], bus: Bus, setup: Se
     requires { ⌜ bus .got ≤ bus .used ⌝ }
     ensures { λ r. ⌜ Refines setup (receive setup) (at (now (readings .entry)) (now (log .entry)) (now (rx .entry)) bus) (now (readings .entry)) (now (log .exit)) (now (rx .exit)) r ⌝ }
 {
-    let a = busy_wait_cycles(
+    let a = busy_wait_flag(
         readings,
         log,
         bus,
-        Awaited::Flag(registers::RXNE, Source::Data),
+        registers::RXNE,
+        Source::Data,
         setup.data_limit,
     );
     let Outcome::Well(next) = a else {
@@ -404,7 +422,7 @@ fn receive(readings: &[u32], log: &mut [u32], rx: &mut [u8], bus: Bus, setup: Se
 fn finish_read(readings: &[u32], log: &mut [u32], bus: Bus, setup: Setup) -> Outcome
     ensures { λ r. ⌜ ((rx : List ℕ) → Refines setup (finish-read setup) (at (now (readings .entry)) (now (log .entry)) rx bus) (now (readings .entry)) (now (log .exit)) rx r) ⌝ }
 {
-    let a = busy_wait_cycles(readings, log, bus, Awaited::Stop, setup.data_limit);
+    let a = busy_wait_stop(readings, log, bus, setup.data_limit);
     let Outcome::Well(next) = a else {
         return a;
     };
@@ -435,7 +453,7 @@ fn read_one(readings: &[u32], log: &mut [u32], rx: &mut [u8], bus: Bus, setup: S
     let Outcome::Well(bus1) = a else {
         return a;
     };
-    let b = receive(readings, log, rx, bus1, setup);
+    let b = receive_bytes(readings, log, rx, bus1, setup, 1);
     let Outcome::Well(bus2) = b else {
         return b;
     };
@@ -464,11 +482,12 @@ fn two_ready(readings: &[u32], log: &mut [u32], bus: Bus, setup: Setup) -> Outco
     let Outcome::Well(bus3) = c else {
         return c;
     };
-    busy_wait_cycles(
+    busy_wait_flag(
         readings,
         log,
         bus3,
-        Awaited::Flag(registers::BTF, Source::Data),
+        registers::BTF,
+        Source::Data,
         setup.data_limit,
     )
 }
@@ -493,7 +512,7 @@ fn two_bytes(readings: &[u32], log: &mut [u32], rx: &mut [u8], bus: Bus) -> Outc
 fn two_end(readings: &[u32], log: &mut [u32], bus: Bus, setup: Setup) -> Outcome
     ensures { λ r. ⌜ ((rx : List ℕ) → Refines setup (two-end setup) (at (now (readings .entry)) (now (log .entry)) rx bus) (now (readings .entry)) (now (log .exit)) rx r) ⌝ }
 {
-    let a = busy_wait_cycles(readings, log, bus, Awaited::Stop, setup.data_limit);
+    let a = busy_wait_stop(readings, log, bus, setup.data_limit);
     let Outcome::Well(bus1) = a else {
         return a;
     };
@@ -527,7 +546,7 @@ fn read_two(readings: &[u32], log: &mut [u32], rx: &mut [u8], bus: Bus, setup: S
 }
 
 // All but the last three bytes.
-fn first_bytes(
+fn receive_bytes(
     readings: &[u32],
     log: &mut [u32],
     rx: &mut [u8],
@@ -536,7 +555,7 @@ fn first_bytes(
     count: usize,
 ) -> Outcome
     requires { ⌜ bus .got ≤ bus .used ⌝ }
-    ensures { λ r. ⌜ Refines setup (first-bytes setup count) (at (now (readings .entry)) (now (log .entry)) (now (rx .entry)) bus) (now (readings .entry)) (now (log .exit)) (now (rx .exit)) r ⌝ }
+    ensures { λ r. ⌜ Refines setup (receive-bytes setup count) (at (now (readings .entry)) (now (log .entry)) (now (rx .entry)) bus) (now (readings .entry)) (now (log .exit)) (now (rx .exit)) r ⌝ }
 {
     let mut bus = bus;
     let mut i: usize = 0;
@@ -556,11 +575,12 @@ fn third_last(readings: &[u32], log: &mut [u32], rx: &mut [u8], bus: Bus, setup:
     requires { ⌜ bus .got ≤ bus .used ⌝ }
     ensures { λ r. ⌜ Refines setup (third-last setup) (at (now (readings .entry)) (now (log .entry)) (now (rx .entry)) bus) (now (readings .entry)) (now (log .exit)) (now (rx .exit)) r ⌝ }
 {
-    let a = busy_wait_cycles(
+    let a = busy_wait_flag(
         readings,
         log,
         bus,
-        Awaited::Flag(registers::BTF, Source::Data),
+        registers::BTF,
+        Source::Data,
         setup.data_limit,
     );
     let Outcome::Well(bus1) = a else {
@@ -598,7 +618,7 @@ fn last_three(readings: &[u32], log: &mut [u32], rx: &mut [u8], bus: Bus, setup:
     let Outcome::Well(bus2) = b else {
         return b;
     };
-    let c = receive(readings, log, rx, bus2, setup);
+    let c = receive_bytes(readings, log, rx, bus2, setup, 1);
     let Outcome::Well(bus3) = c else {
         return c;
     };
@@ -632,7 +652,7 @@ fn read_more(
     let Outcome::Well(bus1) = a else {
         return a;
     };
-    let b = first_bytes(readings, log, rx, bus1, setup, count);
+    let b = receive_bytes(readings, log, rx, bus1, setup, count);
     let Outcome::Well(bus2) = b else {
         return b;
     };

@@ -12,7 +12,7 @@ use Rattle.registers.specs.Access.{SR1, CR1, CYC, wSR1, wDR}
 use Rattle.registers.specs.Machine.{Step, start}
 use Rattle.i2c.specs.declared.Previous.{Previous}
 use Rattle.i2c.specs.Polling.{address-byte, prepare-write, prepare-read, write-bytes, read-bytes, last-read, turn-write, turn-read, turn, transfer, direction, is-last, polling-steps}
-use Rattle.blocking.specs.Blocking.{send-start-and-wait, send-addr-and-wait, write-wait, later-bytes, write-bytes-and-wait, write-without-stop, close, read-wait, first-bytes, read-one, read-two, read-arm, read-steps, close-after, blocking-steps}
+use Rattle.blocking.specs.Blocking.{send-start-and-wait, send-addr-and-wait, write-wait, later-bytes, write-bytes-and-wait, write-without-stop, close, read-wait, receive-bytes, read-one, read-two, read-arm, read-steps, close-after, blocking-steps}
 use Rattle.engine.specs.Compare.{ends-empty}
 use Rattle.engine.proofs.Shape.{Full}
 use Rattle.engine.proofs.Trace.{Both, ends, stops, first, apart, flip, prefix, skip, puts, modifies, modify-or-wait, check-or-flag, waits}
@@ -107,16 +107,16 @@ module _ {s : Setup} {P : Type 0} {p q : List Step} where
 
   -- first bytes received, where a CR1 read follows the wait for BTF
   same-firsts : (m n : ℕ) → first p ≡ CR1 → first q ≡ CR1 → (m ≡ n → Both s P p q)
-      → Both s P (first-bytes s m ++ read-wait s BTF ∷ p) (first-bytes s n ++ read-wait s BTF ∷ q)
-  unfolding first-bytes first
+      → Both s P (receive-bytes s m ++ read-wait s BTF ∷ p) (receive-bytes s n ++ read-wait s BTF ∷ q)
+  unfolding receive-bytes first
   same-firsts zero zero hp hq k = skip (k refl)
   same-firsts zero (suc n) hp hq k = waits ends (omega arith) (omega arith) (omega arith)
   same-firsts (suc m) zero hp hq k = waits ends (omega arith) (omega arith) (omega arith)
   same-firsts (suc m) (suc n) hp hq k = skip (skip (same-firsts m n hp hq (λ e. k (ap suc e))))
 
 -- the first bytes, or the wait after them, begin with a counter read
-first-counter : (s : Setup) (n : ℕ) (p : List Step) → first (first-bytes s n ++ read-wait s BTF ∷ p) ≡ CYC
-unfolding first-bytes first
+first-counter : (s : Setup) (n : ℕ) (p : List Step) → first (receive-bytes s n ++ read-wait s BTF ∷ p) ≡ CYC
+unfolding receive-bytes first
 first-counter s zero p = refl
 first-counter s (suc n) p = refl
 

@@ -10,7 +10,7 @@ use Rattle.units.specs.declared.Setup.{Setup}
 use Rattle.buslist.specs.Meaning.{Operation, write, read, Call}
 use Rattle.i2c.specs.declared.Previous.{Previous}
 use Rattle.i2c.specs.Polling.{write-bytes, read-bytes, last-read, turn-write, turn-read, turn, transfer, direction, is-last, polling-steps}
-use Rattle.blocking.specs.Blocking.{later-bytes, write-wait, write-bytes-and-wait, write-without-stop, first-bytes, last-three, read-arm, read-steps, done-last, close-after, blocking-steps, operation-steps as blocking-operation}
+use Rattle.blocking.specs.Blocking.{later-bytes, write-wait, write-bytes-and-wait, write-without-stop, receive-bytes, last-three, read-arm, read-steps, done-last, close-after, blocking-steps, operation-steps as blocking-operation}
 use Rattle.engine.specs.Calls.{Engine, engine-of, early, operations-steps, steps-of}
 use Rattle.registers.specs.declared.BusError.{BusError}
 use Rattle.registers.specs.declared.Flagged.{Flagged}
@@ -192,10 +192,10 @@ module _ (P G : ℕ → ℕ) (w : Weights P G) where
   later-bytes-none s [] = omega arith
   later-bytes-none s (b ∷ bytes) = omega (arith, later-bytes-none s bytes)
 
-  first-bytes-total : (s : Setup) (n : ℕ) → total (first-bytes s n) ≡ times n
-  unfolding first-bytes total times
-  first-bytes-total s zero = omega arith
-  first-bytes-total s (suc n) = omega (arith, first-bytes-total s n)
+  receive-bytes-total : (s : Setup) (n : ℕ) → total (receive-bytes s n) ≡ times n
+  unfolding receive-bytes total times
+  receive-bytes-total s zero = omega arith
+  receive-bytes-total s (suc n) = omega (arith, receive-bytes-total s n)
 
   write-total : (s : Setup) (a : ℕ) (bytes : List ℕ) → total (write-without-stop s a bytes) ≡ 0
   unfolding write-without-stop write-bytes-and-wait total
@@ -209,7 +209,7 @@ module _ (P G : ℕ → ℕ) (w : Weights P G) where
   arm-total s zero = omega arith
   arm-total s (suc zero) = omega arith
   arm-total s (suc (suc zero)) = omega arith
-  arm-total s (suc (suc (suc n))) = omega (arith, total-append (first-bytes s n) (last-three s), first-bytes-total s n)
+  arm-total s (suc (suc (suc n))) = omega (arith, total-append (receive-bytes s n) (last-three s), receive-bytes-total s n)
 
   read-total : (s : Setup) (a n : ℕ) → total (read-steps s a n) ≡ times n
   unfolding read-steps total times

@@ -452,7 +452,7 @@ fn read_wo_prepare(
     let Outcome::Well(bus2) = b else {
         return b;
     };
-    let c = recv_byte(readings, log, rx, bus2);
+    let c = read_bytes(readings, log, rx, bus2, 1);
     let Outcome::Well(bus3) = c else {
         return c;
     };

@@ -114,11 +114,6 @@ abbrev pub polled-register : Awaited → ℕ
 polled-register (Awaited.Flag f n) = SR1
 polled-register Awaited.Stop = CR1
 
--- the bit that it tests
-abbrev pub polled-bit : Awaited → ℕ
-polled-bit (Awaited.Flag f n) = f
-polled-bit Awaited.Stop = STOP
-
 -- the error that a poll finds; a wait for STOP meets no bus error
 unfoldable pub poll-error : Awaited → ℕ → Flagged
 poll-error (Awaited.Flag f n) v = poll-word n v

@@ -4,12 +4,12 @@ use Rattle.blocking.proofs.finish_read.Statement.{statement}
 use Rattle.blocking.proofs.finish_read.Tie as tie
 
 returns : tie.Need-returns
-returns c rx = call-stops (waits-end (c .before .before .before .busy-wait-cycles .ensures _ _ _)) _ here (c .match .keys2)
+returns c rx = call-stops (waits-end (c .before .before .before .busy-wait-stop .ensures _ _ _)) _ here (c .match .keys2)
 
 returns-2 : tie.Need-returns-2
 returns-2 c rx =
     let a = c .before .before .before .before .before in
-    call-last (call-step (waits-end (a .before .before .before .before .busy-wait-cycles .ensures _ _ _)) _ here (a .a .given .1)) (c .before .before .modify-cr1 .ensures _ _)
+    call-last (call-step (waits-end (a .before .before .before .before .busy-wait-stop .ensures _ _ _)) _ here (a .a .given .1)) (c .before .before .modify-cr1 .ensures _ _)
 
 pub finish-read-spec : {M : Type 1} → statement M
 finish-read-spec =

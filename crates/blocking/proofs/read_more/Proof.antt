@@ -7,27 +7,27 @@ use Rattle.blocking.proofs.read_more.Tie as tie
 returns : tie.Need-returns
 returns c = call-stops (c .before .before .before .more-ready .ensures _ _) _ here (c .match .keys2)
 
-first-bytes-requires : tie.Need-first-bytes-requires
-first-bytes-requires c κs =
+receive-bytes-requires : tie.Need-receive-bytes-requires
+receive-bytes-requires c κs =
     let a = c .before .before .before in
     keeps-fewer (a .before .before .before .before .more-ready .ensures no-setup []) (a .a .given .1) (a .before .before .before .before .before .before .before .before .before .pre)
 
 returns-2 : tie.Need-returns-2
 returns-2 c =
     let a = c .before .before .before .before .before .before .before .before .before in
-    call-stops (c .before .before .before .before .before .first-bytes .ensures) _ (call-step (a .before .before .before .before .more-ready .ensures _ _) _ here (a .a .given .1)) (c .match2 .keys2)
+    call-stops (c .before .before .before .before .before .receive-bytes .ensures) _ (call-step (a .before .before .before .before .more-ready .ensures _ _) _ here (a .a .given .1)) (c .match2 .keys2)
 
 last-three-requires : tie.Need-last-three-requires
 last-three-requires c κs =
     let b = c .before .before .before in
     let a = b .before .before .before .before .before .before .before .before .before .before in
-    keeps-fewer (b .before .before .before .before .before .before .first-bytes .ensures) (b .b .given .1) (keeps-fewer (a .before .before .before .before .more-ready .ensures no-setup []) (a .a .given .1) (a .before .before .before .before .before .before .before .before .before .pre))
+    keeps-fewer (b .before .before .before .before .before .before .receive-bytes .ensures) (b .b .given .1) (keeps-fewer (a .before .before .before .before .more-ready .ensures no-setup []) (a .a .given .1) (a .before .before .before .before .before .before .before .before .before .pre))
 
 returns-3 : tie.Need-returns-3
 returns-3 c =
     let b = c .before .before .before .before .before .before .before .before in
     let a = b .before .before .before .before .before .before .before .before .before .before in
-    call-last (call-step (b .before .before .before .before .before .before .first-bytes .ensures) _ (call-step (a .before .before .before .before .more-ready .ensures _ _) _ here (a .a .given .1)) (b .b .given .1)) (c .before .before .before .before .last-three .ensures)
+    call-last (call-step (b .before .before .before .before .before .before .receive-bytes .ensures) _ (call-step (a .before .before .before .before .more-ready .ensures _ _) _ here (a .a .given .1)) (b .b .given .1)) (c .before .before .before .before .last-three .ensures)
 
 pub read-more-spec : {M : Type 1} → statement M
 read-more-spec =
@@ -37,7 +37,7 @@ read-more-spec =
     (λ c. search needs)
     (λ c. search needs)
     returns
-    first-bytes-requires
+    receive-bytes-requires
     (λ c. search needs)
     (λ c. search needs)
     (λ c. search needs)

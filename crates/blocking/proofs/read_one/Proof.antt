@@ -1,27 +1,28 @@
 use mathlib.Core.List.{[]}
 use Rattle.registers.proofs.Steps.{here, call-step, call-stops, call-last, keeps-fewer, no-setup}
 use borrow.Author.Needs.{needs}
+use Rattle.blocking.proofs.Waiting.{one-byte}
 use Rattle.blocking.proofs.read_one.Statement.{statement}
 use Rattle.blocking.proofs.read_one.Tie as tie
 
 returns : tie.Need-returns
 returns c = call-stops (c .before .before .before .one-ready .ensures _ _) _ here (c .match .keys2)
 
-receive-requires : tie.Need-receive-requires
-receive-requires c κs =
+receive-bytes-requires : tie.Need-receive-bytes-requires
+receive-bytes-requires c κs =
     let a = c .before .before .before in
     keeps-fewer (a .before .before .before .before .one-ready .ensures no-setup []) (a .a .given .1) (a .before .before .before .before .before .before .before .before .before .pre)
 
 returns-2 : tie.Need-returns-2
 returns-2 c =
     let a = c .before .before .before .before .before .before .before .before .before in
-    call-stops (c .before .before .before .before .before .receive .ensures) _ (call-step (a .before .before .before .before .one-ready .ensures _ _) _ here (a .a .given .1)) (c .match2 .keys2)
+    call-stops (rw (one-byte _) at (c .before .before .before .before .before .receive-bytes .ensures)) _ (call-step (a .before .before .before .before .one-ready .ensures _ _) _ here (a .a .given .1)) (c .match2 .keys2)
 
 returns-3 : tie.Need-returns-3
 returns-3 c =
     let b = c .before .before .before .before .before in
     let a = b .before .before .before .before .before .before .before .before .before .before in
-    call-last (call-step (b .before .before .before .before .before .before .receive .ensures) _ (call-step (a .before .before .before .before .one-ready .ensures _ _) _ here (a .a .given .1)) (b .b .given .1)) (c .before .before .finish-read .ensures _)
+    call-last (call-step (rw (one-byte _) at (b .before .before .before .before .before .before .receive-bytes .ensures)) _ (call-step (a .before .before .before .before .one-ready .ensures _ _) _ here (a .a .given .1)) (b .b .given .1)) (c .before .before .finish-read .ensures _)
 
 pub read-one-spec : {M : Type 1} → statement M
 read-one-spec =
@@ -31,7 +32,7 @@ read-one-spec =
     (λ c. search needs)
     (λ c. search needs)
     returns
-    receive-requires
+    receive-bytes-requires
     (λ c. search needs)
     (λ c. search needs)
     (λ c. search needs)

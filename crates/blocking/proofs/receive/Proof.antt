@@ -5,17 +5,17 @@ use Rattle.blocking.proofs.receive.Statement.{statement}
 use Rattle.blocking.proofs.receive.Tie as tie
 
 returns : tie.Need-returns
-returns c = call-stops (waits-end (c .before .before .before .busy-wait-cycles .ensures _ _ _)) _ here (c .match .keys2)
+returns c = call-stops (waits-end (c .before .before .before .busy-wait-flag .ensures _ _ _)) _ here (c .match .keys2)
 
 read-data-requires : tie.Need-read-data-requires
 read-data-requires c κs =
     let a = c .before .before .before in
-    keeps-fewer (waits-end (a .before .before .before .before .busy-wait-cycles .ensures no-setup _ [])) (a .a .given .1) (a .before .before .before .before .before .before .before .before .before .pre)
+    keeps-fewer (waits-end (a .before .before .before .before .busy-wait-flag .ensures no-setup _ [])) (a .a .given .1) (a .before .before .before .before .before .before .before .before .before .pre)
 
 returns-2 : tie.Need-returns-2
 returns-2 c =
     let a = c .before .before .before .before .before .before .before .before in
-    call-last (call-step (waits-end (a .before .before .before .before .busy-wait-cycles .ensures _ _ _)) _ here (a .a .given .1)) (c .before .before .before .before .read-data .ensures _)
+    call-last (call-step (waits-end (a .before .before .before .before .busy-wait-flag .ensures _ _ _)) _ here (a .a .given .1)) (c .before .before .before .before .read-data .ensures _)
 
 pub receive-spec : {M : Type 1} → statement M
 receive-spec =

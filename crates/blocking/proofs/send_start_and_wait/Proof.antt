@@ -67,24 +67,24 @@ returns : tie.Need-returns Inv-loop μ-loop
 returns c rx = call-stops (c .before .before .before .send-start .ensures _ rx) _ (try-first _ _ (c .before .before .before .before .before .loop-test .taken) (c .before .before .before .before .before .before .loop .inv .0 rx)) (c .match .keys2)
 
 returns-2 : tie.Need-returns-2 Inv-loop μ-loop
-returns-2 c rx = wait-last (c .before .before .before .busy-wait-cycles .ensures _ _ rx) (call-step (c .before .before .before .before .before .before .before .before .before .before .send-start .ensures _ rx) _ (try-first _ _ (c .before .before .before .before .before .before .before .before .before .before .before .before .loop-test .taken) (c .before .before .before .before .before .before .before .before .before .before .before .before .before .loop .inv .0 rx)) (c .before .before .before .before .before .before .a .given .1)) (c .match2 .keys2)
+returns-2 c rx = wait-last (c .before .before .before .busy-wait-flag .ensures _ _ rx) (call-step (c .before .before .before .before .before .before .before .before .before .before .send-start .ensures _ rx) _ (try-first _ _ (c .before .before .before .before .before .before .before .before .before .before .before .before .loop-test .taken) (c .before .before .before .before .before .before .before .before .before .before .before .before .before .loop .inv .0 rx)) (c .before .before .before .before .before .before .a .given .1)) (c .match2 .keys2)
 
 same-length-3 : tie.Need-same-length-3 Inv-loop μ-loop
-same-length-3 c = omega (arith, c .before .before .before .reset .kept, c .before .before .before .before .before .before .before .before .before .before .busy-wait-cycles .kept, c .before .before .before .before .before .before .before .before .before .before .before .before .before .before .before .before .before .send-start .kept, c .before .before .before .before .before .before .before .before .before .before .before .before .before .before .before .before .before .before .before .before .loop .inv .1)
+same-length-3 c = omega (arith, c .before .before .before .reset .kept, c .before .before .before .before .before .before .before .before .before .before .busy-wait-flag .kept, c .before .before .before .before .before .before .before .before .before .before .before .before .before .before .before .before .before .send-start .kept, c .before .before .before .before .before .before .before .before .before .before .before .before .before .before .before .before .before .before .before .before .loop .inv .1)
 
 returns-3 : tie.Need-returns-3 Inv-loop μ-loop
-returns-3 c rx = call-stops (c .before .before .before .reset .ensures rx) _ (try-fails (try-first _ _ (c .before .before .before .before .before .before .before .before .before .before .before .before .before .before .before .before .before .before .before .loop-test .taken) (c .before .before .before .before .before .before .before .before .before .before .before .before .before .before .before .before .before .before .before .before .loop .inv .0 rx)) (c .before .before .before .before .before .before .before .before .before .before .before .before .before .before .before .before .before .send-start .ensures _ rx) (c .before .before .before .before .before .before .before .before .before .before .before .before .before .a .given .1) (c .before .before .before .before .before .before .before .before .before .before .busy-wait-cycles .ensures _ _ rx) (c .before .before .before .before .before .before .w .given .1)) (c .match3 .keys2)
+returns-3 c rx = call-stops (c .before .before .before .reset .ensures rx) _ (try-fails (try-first _ _ (c .before .before .before .before .before .before .before .before .before .before .before .before .before .before .before .before .before .before .before .loop-test .taken) (c .before .before .before .before .before .before .before .before .before .before .before .before .before .before .before .before .before .before .before .before .loop .inv .0 rx)) (c .before .before .before .before .before .before .before .before .before .before .before .before .before .before .before .before .before .send-start .ensures _ rx) (c .before .before .before .before .before .before .before .before .before .before .before .before .before .a .given .1) (c .before .before .before .before .before .before .before .before .before .before .busy-wait-flag .ensures _ _ rx) (c .before .before .before .before .before .before .w .given .1)) (c .match3 .keys2)
 
 same-length-4 : tie.Need-same-length-4 Inv-loop μ-loop
-same-length-4 c = omega (arith, c .before .before .before .before .before .before .reset .kept, c .before .before .before .before .before .before .before .before .before .before .before .before .before .busy-wait-cycles .kept, c .before .before .before .before .before .before .before .before .before .before .before .before .before .before .before .before .before .before .before .before .send-start .kept, c .before .before .before .before .before .before .before .before .before .before .before .before .before .before .before .before .before .before .before .before .before .before .before .loop .inv .1)
+same-length-4 c = omega (arith, c .before .before .before .before .before .before .reset .kept, c .before .before .before .before .before .before .before .before .before .before .before .before .before .busy-wait-flag .kept, c .before .before .before .before .before .before .before .before .before .before .before .before .before .before .before .before .before .before .before .before .send-start .kept, c .before .before .before .before .before .before .before .before .before .before .before .before .before .before .before .before .before .before .before .before .before .before .before .loop .inv .1)
 
 returns-4 : tie.Need-returns-4 Inv-loop μ-loop
-returns-4 c rx = ends-failed (rewritten (again-none _ _ _ (c .if1 .taken)) (call-step (c .before .before .before .before .before .before .reset .ensures rx) _ (try-fails (try-first _ _ (c .before .before .before .before .before .before .before .before .before .before .before .before .before .before .before .before .before .before .before .before .before .before .loop-test .taken) (c .before .before .before .before .before .before .before .before .before .before .before .before .before .before .before .before .before .before .before .before .before .before .before .loop .inv .0 rx)) (c .before .before .before .before .before .before .before .before .before .before .before .before .before .before .before .before .before .before .before .before .send-start .ensures _ rx) (c .before .before .before .before .before .before .before .before .before .before .before .before .before .before .before .before .a .given .1) (c .before .before .before .before .before .before .before .before .before .before .before .before .before .busy-wait-cycles .ensures _ _ rx) (c .before .before .before .before .before .before .before .before .before .w .given .1)) (c .before .before .b .given .1)))
+returns-4 c rx = ends-failed (rewritten (again-none _ _ _ (c .if1 .taken)) (call-step (c .before .before .before .before .before .before .reset .ensures rx) _ (try-fails (try-first _ _ (c .before .before .before .before .before .before .before .before .before .before .before .before .before .before .before .before .before .before .before .before .before .before .loop-test .taken) (c .before .before .before .before .before .before .before .before .before .before .before .before .before .before .before .before .before .before .before .before .before .before .before .loop .inv .0 rx)) (c .before .before .before .before .before .before .before .before .before .before .before .before .before .before .before .before .before .before .before .before .send-start .ensures _ rx) (c .before .before .before .before .before .before .before .before .before .before .before .before .before .before .before .before .a .given .1) (c .before .before .before .before .before .before .before .before .before .before .before .before .before .busy-wait-flag .ensures _ _ rx) (c .before .before .before .before .before .before .before .before .before .w .given .1)) (c .before .before .b .given .1)))
 
 loop-again : tie.Need-loop-again Inv-loop μ-loop
 loop-again c = (
-  (λ rx. rewritten (again-more _ _ _ (c .if1 .left)) (call-step (c .before .before .before .before .before .before .reset .ensures rx) _ (try-fails (try-first _ _ (c .before .before .before .before .before .before .before .before .before .before .before .before .before .before .before .before .before .before .before .before .before .before .loop-test .taken) (c .before .before .before .before .before .before .before .before .before .before .before .before .before .before .before .before .before .before .before .before .before .before .before .loop .inv .0 rx)) (c .before .before .before .before .before .before .before .before .before .before .before .before .before .before .before .before .before .before .before .before .send-start .ensures _ rx) (c .before .before .before .before .before .before .before .before .before .before .before .before .before .before .before .before .a .given .1) (c .before .before .before .before .before .before .before .before .before .before .before .before .before .busy-wait-cycles .ensures _ _ rx) (c .before .before .before .before .before .before .before .before .before .w .given .1)) (c .before .before .b .given .1))),
-  omega (arith, c .before .before .before .before .before .before .reset .kept, c .before .before .before .before .before .before .before .before .before .before .before .before .before .busy-wait-cycles .kept, c .before .before .before .before .before .before .before .before .before .before .before .before .before .before .before .before .before .before .before .before .send-start .kept, c .before .before .before .before .before .before .before .before .before .before .before .before .before .before .before .before .before .before .before .before .before .before .before .loop .inv .1),
+  (λ rx. rewritten (again-more _ _ _ (c .if1 .left)) (call-step (c .before .before .before .before .before .before .reset .ensures rx) _ (try-fails (try-first _ _ (c .before .before .before .before .before .before .before .before .before .before .before .before .before .before .before .before .before .before .before .before .before .before .loop-test .taken) (c .before .before .before .before .before .before .before .before .before .before .before .before .before .before .before .before .before .before .before .before .before .before .before .loop .inv .0 rx)) (c .before .before .before .before .before .before .before .before .before .before .before .before .before .before .before .before .before .before .before .before .send-start .ensures _ rx) (c .before .before .before .before .before .before .before .before .before .before .before .before .before .before .before .before .a .given .1) (c .before .before .before .before .before .before .before .before .before .before .before .before .before .busy-wait-flag .ensures _ _ rx) (c .before .before .before .before .before .before .before .before .before .w .given .1)) (c .before .before .b .given .1))),
+  omega (arith, c .before .before .before .before .before .before .reset .kept, c .before .before .before .before .before .before .before .before .before .before .before .before .before .busy-wait-flag .kept, c .before .before .before .before .before .before .before .before .before .before .before .before .before .before .before .before .before .before .before .before .send-start .kept, c .before .before .before .before .before .before .before .before .before .before .before .before .before .before .before .before .before .before .before .before .before .before .before .loop .inv .1),
 )
 
 returns-5 : tie.Need-returns-5 Inv-loop μ-loop

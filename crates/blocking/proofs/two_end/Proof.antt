@@ -4,18 +4,18 @@ use Rattle.blocking.proofs.two_end.Statement.{statement}
 use Rattle.blocking.proofs.two_end.Tie as tie
 
 returns : tie.Need-returns
-returns c rx = call-stops (waits-end (c .before .before .before .busy-wait-cycles .ensures _ _ _)) _ here (c .match .keys2)
+returns c rx = call-stops (waits-end (c .before .before .before .busy-wait-stop .ensures _ _ _)) _ here (c .match .keys2)
 
 returns-2 : tie.Need-returns-2
 returns-2 c rx =
     let a = c .before .before .before .before .before .before in
-    call-stops (c .before .before .before .modify-cr1 .ensures _ _) _ (call-step (waits-end (a .before .before .before .before .busy-wait-cycles .ensures _ _ _)) _ here (a .a .given .1)) (c .match2 .keys2)
+    call-stops (c .before .before .before .modify-cr1 .ensures _ _) _ (call-step (waits-end (a .before .before .before .before .busy-wait-stop .ensures _ _ _)) _ here (a .a .given .1)) (c .match2 .keys2)
 
 returns-3 : tie.Need-returns-3
 returns-3 c rx =
     let b = c .before .before .before .before .before in
     let a = b .before .before .before .before .before .before .before in
-    call-last (call-step (b .before .before .before .before .modify-cr1 .ensures _ _) _ (call-step (waits-end (a .before .before .before .before .busy-wait-cycles .ensures _ _ _)) _ here (a .a .given .1)) (b .b .given .1)) (c .before .before .modify-cr12 .ensures _ _)
+    call-last (call-step (b .before .before .before .before .modify-cr1 .ensures _ _) _ (call-step (waits-end (a .before .before .before .before .busy-wait-stop .ensures _ _ _)) _ here (a .a .given .1)) (b .b .given .1)) (c .before .before .modify-cr12 .ensures _ _)
 
 pub two-end-spec : {M : Type 1} → statement M
 two-end-spec =

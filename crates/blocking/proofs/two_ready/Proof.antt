@@ -22,7 +22,7 @@ returns-4 c rx =
     let d = c .before .before .before .before .before in
     let b = d .before .before .before .before .before .before .before in
     let a = b .before .before .before .before .before .before .before in
-    call-last (call-step (d .before .before .before .before .modify-cr12 .ensures _ _) _ (call-step (b .before .before .before .before .read-status .ensures _ _) _ (call-step (a .before .before .before .before .modify-cr1 .ensures _ _) _ here (a .a .given .1)) (b .b .given .1)) (d .c .given .1)) (waits-end (c .before .before .busy-wait-cycles .ensures _ _ _))
+    call-last (call-step (d .before .before .before .before .modify-cr12 .ensures _ _) _ (call-step (b .before .before .before .before .read-status .ensures _ _) _ (call-step (a .before .before .before .before .modify-cr1 .ensures _ _) _ here (a .a .given .1)) (b .b .given .1)) (d .c .given .1)) (waits-end (c .before .before .busy-wait-flag .ensures _ _ _))
 
 pub two-ready-spec : {M : Type 1} → statement M
 two-ready-spec =

@@ -39,7 +39,7 @@ returns-3 c rx =
     let a = b .before .before .before .before .before .before .before .before in
     waits-last
     (wait-step (b .before .before .before .before .write-later .ensures rx) _ (call-step (a .before .before .before .before .write-first .ensures _ rx) _ (rewritten (its-bytes _ _ (a .before .before .before .before .before .before .before .before .before .before .before .pre)) here) (a .a .given .1)) (b .b .given .1))
-    (c .before .before .busy-wait-cycles .ensures _ _ rx)
+    (c .before .before .busy-wait-flag .ensures _ _ rx)
 
 pub write-bytes-and-wait-spec : {M : Type 1} → statement M
 write-bytes-and-wait-spec =

@@ -45,7 +45,7 @@ loop-holds : tie.Need-loop-holds Inv-loop μ-loop
 loop-holds c = ((λ s rx e. here), refl, omega arith)
 
 returns : tie.Need-returns Inv-loop μ-loop
-returns c rx = wait-stops (c .before .before .before .busy-wait-cycles .ensures _ _ rx) _ (rewritten (next-byte _ refl _ _ (c .before .before .before .before .before .loop-test .taken)) (c .before .before .before .before .before .before .loop .inv .0 _ rx refl)) (c .match .keys2)
+returns c rx = wait-stops (c .before .before .before .busy-wait-flag .ensures _ _ rx) _ (rewritten (next-byte _ refl _ _ (c .before .before .before .before .before .loop-test .taken)) (c .before .before .before .before .before .before .loop .inv .0 _ rx refl)) (c .match .keys2)
 
 cast-write : tie.Need-cast-write Inv-loop μ-loop
 cast-write c = omega (arith, c .shared-slice-known3 .given (c .before .before .before .before .before .before .before .before .before .before .loop .i))
@@ -54,7 +54,7 @@ returns-2 : tie.Need-returns-2 Inv-loop μ-loop
 returns-2 c rx =
     let w = c .before .before .before .before .before .before .before in
     wait-stops (settles (put-unfailing _ _ refl nothing-fails) (write-last here (c .before .before .before .write .ensures _ rx) refl)) _
-    (wait-step (w .before .before .before .before .busy-wait-cycles .ensures _ _ rx) _ (rewritten (next-byte _ refl _ _ (w .before .before .before .before .before .before .loop-test .taken)) (w .before .before .before .before .before .before .before .loop .inv .0 _ rx refl)) (w .w .given .1))
+    (wait-step (w .before .before .before .before .busy-wait-flag .ensures _ _ rx) _ (rewritten (next-byte _ refl _ _ (w .before .before .before .before .before .before .loop-test .taken)) (w .before .before .before .before .before .before .before .loop .inv .0 _ rx refl)) (w .w .given .1))
     (c .match2 .keys2)
 
 add-i : tie.Need-add-i Inv-loop μ-loop
@@ -63,8 +63,8 @@ add-i c = omega (arith, c .before .before .before .before .before .before .befor
 loop-again : tie.Need-loop-again Inv-loop μ-loop
 loop-again c =
     let w = c .before .before .before .before .before .before .before .before .before in (
-      (λ s rx e. write-step (wait-step (w .before .before .before .before .busy-wait-cycles .ensures s _ rx) _ (rewritten (next-byte s e _ _ (w .before .before .before .before .before .before .loop-test .taken)) (w .before .before .before .before .before .before .before .loop .inv .0 s rx e)) (w .w .given .1)) (c .before .before .before .before .before .write .ensures _ rx) refl (c .before .o .given .1)),
-      omega (arith, w .before .before .before .before .busy-wait-cycles .kept, c .before .before .before .before .before .write .kept),
+      (λ s rx e. write-step (wait-step (w .before .before .before .before .busy-wait-flag .ensures s _ rx) _ (rewritten (next-byte s e _ _ (w .before .before .before .before .before .before .loop-test .taken)) (w .before .before .before .before .before .before .before .loop .inv .0 s rx e)) (w .w .given .1)) (c .before .before .before .before .before .write .ensures _ rx) refl (c .before .o .given .1)),
+      omega (arith, w .before .before .before .before .busy-wait-flag .kept, c .before .before .before .before .before .write .kept),
       omega arith,
     )
 

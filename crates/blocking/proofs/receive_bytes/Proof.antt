@@ -6,27 +6,27 @@ use lib.ListN.{length}
 use Rattle.units.specs.declared.Setup.{Setup}
 use Rattle.registers.specs.State.{at}
 use Rattle.registers.specs.Contract.{Reaches}
-use Rattle.blocking.specs.Blocking.{receive, first-bytes}
+use Rattle.blocking.specs.Blocking.{receive, receive-bytes}
 use Rattle.registers.proofs.Steps.{here, call-step, call-stops, ends-well, rewritten, keeps-fewer}
 use borrow.Author.Needs.{needs}
-use Rattle.blocking.proofs.first_bytes.Statement.{statement}
-use Rattle.blocking.proofs.first_bytes.Tie as tie
+use Rattle.blocking.proofs.receive_bytes.Statement.{statement}
+use Rattle.blocking.proofs.receive_bytes.Tie as tie
 
 -- the next byte; none left; all of them
-next-byte : (s : Setup) (n i : ℕ) → i < n → first-bytes s (n - i) ≡ receive s ++ first-bytes s (n - (i + 1))
-unfolding first-bytes
+next-byte : (s : Setup) (n i : ℕ) → i < n → receive-bytes s (n - i) ≡ receive s ++ receive-bytes s (n - (i + 1))
+unfolding receive-bytes
 next-byte s n i h = let e : n - i ≡ suc (n - (i + 1)) = omega arith in rw e
 
-no-byte : (s : Setup) (n i : ℕ) → n ≤ i → first-bytes s (n - i) ≡ []
-unfolding first-bytes
+no-byte : (s : Setup) (n i : ℕ) → n ≤ i → receive-bytes s (n - i) ≡ []
+unfolding receive-bytes
 no-byte s n i h = let e : n - i ≡ zero = omega arith in rw e
 
-whole : (s : Setup) (n : ℕ) → first-bytes s n ≡ first-bytes s (n - 0)
-whole s n = let e : n ≡ n - 0 = omega arith in ap (first-bytes s) e
+whole : (s : Setup) (n : ℕ) → receive-bytes s n ≡ receive-bytes s (n - 0)
+whole s n = let e : n ≡ n - 0 = omega arith in ap (receive-bytes s) e
 
 abbrev Inv-loop : tie.InvT-loop
 Inv-loop readings log₀ rx₀ setup count bus₀ i₀ log rx bus i =
-    Reaches setup (first-bytes setup count) (at readings log₀ rx₀ bus₀) (first-bytes setup (count - i)) (at readings log rx bus)
+    Reaches setup (receive-bytes setup count) (at readings log₀ rx₀ bus₀) (receive-bytes setup (count - i)) (at readings log rx bus)
     × (length log ≡ length log₀) × (length rx ≡ length rx₀) × (bus .got ≤ bus .used)
 
 abbrev μ-loop : tie.MeasureT-loop
@@ -54,8 +54,8 @@ loop-again c =
 returns-2 : tie.Need-returns-2 Inv-loop μ-loop
 returns-2 c = ends-well (rewritten (no-byte _ _ _ (c .loop-test .left)) (c .before .loop .inv .0))
 
-pub first-bytes-spec : {M : Type 1} → statement M
-first-bytes-spec =
+pub receive-bytes-spec : {M : Type 1} → statement M
+receive-bytes-spec =
     tie.close
     (tie.spec
     Inv-loop

@@ -1,0 +1,39 @@
+use mathlib.Core.Path.{refl, sym, _∙_}
+use borrow.Author.Needs.{needs}
+use Rattle.registers.proofs.Steps.{here}
+use Rattle.blocking.proofs.Waiting.{wait-none, wait-unread, wait-at-once, wait-longer}
+use Rattle.blocking.proofs.busy_wait_stop.Statement.{statement}
+use Rattle.blocking.proofs.busy_wait_stop.Tie as tie
+
+returns : tie.Need-returns
+returns c s h rx = rw (c .outcome-of .ensures) (wait-none here (c .before .before .before .before .read .ensures rx) refl refl (c .before .match .keys2))
+
+returns-2 : tie.Need-returns-2
+returns-2 c s h rx = rw (c .outcome-of2 .ensures) (wait-unread (c .before .before .before .before .before .before .before .before .before .before .before .read .ensures rx) (c .before .before .before .before .before .before .before .c .given .1) (c .before .before .before .before .read2 .ensures rx) (c .before .match2 .keys2))
+
+returns-3 : tie.Need-returns-3
+returns-3 c s h rx = wait-at-once (c .before .before .before .before .before .before .before .before .before .before .before .before .before .before .read .ensures rx) (c .before .before .before .before .before .before .before .before .before .before .c .given .1) (c .before .before .before .before .before .before .before .read2 .ensures rx) (c .before .before .before .d .given .1) (sym (c .before .wait-for-stop .ensures) ∙ c .if1 .taken)
+
+returns-4 : tie.Need-returns-4
+returns-4 c s h rx = wait-longer (c .before .before .before .before .before .before .before .before .before .before .before .before .before .before .before .before .before .before .read .ensures rx) (c .before .before .before .before .before .before .before .before .before .before .before .before .before .before .c .given .1) (c .before .before .before .before .before .before .before .before .before .before .before .read2 .ensures rx) (c .before .before .before .before .before .before .before .d .given .1) (c .before .before .busy-wait .ensures s h rx)
+
+pub busy-wait-stop-spec : {M : Type 1} → statement M
+busy-wait-stop-spec =
+    tie.close
+    (tie.spec
+    (λ c κs. search needs)
+    (λ c. search needs)
+    (λ c κs. search needs)
+    (λ c. search needs)
+    returns
+    (λ c κs. search needs)
+    (λ c. search needs)
+    (λ c κs. search needs)
+    (λ c. search needs)
+    returns-2
+    (λ c κs. search needs)
+    (λ c. search needs)
+    returns-3
+    (λ c κs. search needs)
+    (λ c. search needs)
+    returns-4)
