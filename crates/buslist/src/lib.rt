@@ -4,9 +4,10 @@ use units::Micros;
 use units::Settings;
 ghost use mathlib.Core.Path.{_≡_};
 ghost use Rattle.units.specs.Speed.{frequency-out};
-ghost use Prim.Native.Nat.{min};
+ghost use Prim.Native.Nat.{min, _+_, _≤_, _<_, _^_};
+ghost use lib.ListN.{length};
 ghost use Rattle.buslist.specs.Bytes.{byte, half, word};
-ghost use Rattle.buslist.specs.Table.{call-count, operation-count, settings-of, call-at, operation-at, operations-of, calls, operations, data-bytes};
+ghost use Rattle.buslist.specs.Table.{call-count, call-offset, operation-count, operation-offset, settings-of, call-at, operation-at, operations-of, calls, operations, data-bytes};
 ghost use Rattle.buslist.specs.Form.{header-right, written, operation-right, operations-right, kind-right, call-right, calls-right, of-the-form};
 ghost use Rattle.buslist.specs.Meaning.{bytes-of};
 ghost use Rattle.buslist.specs.Refusal.{any, longest-operation, too-long, over-limit, too-many-cycles, timeout-out, address-out, empty-blocking, received, all-received, refusal};
@@ -28,6 +29,9 @@ pub struct OperationEntry {
     pub offset: u32,
 }
 
+// The most bytes that one operation may have.
+const LONGEST_OPERATION: u16 = 4096;
+
 // The byte at i, 0 past the end.
 fn byte_at(list: &[u8], i: usize) -> u8
     ensures { λ r. ⌜ r ≡ byte (now (list .entry)) i ⌝ }
@@ -45,7 +49,8 @@ fn half_at(list: &[u8], i: usize) -> u16
     byte_at(list, i) as u16 + 256 * (byte_at(list, i + 1) as u16)
 }
 
-fn word_at(list: &[u8], i: usize) -> u32
+// The word at i, of which the list may have only a part.
+fn word_past(list: &[u8], i: usize) -> u32
     ensures { λ r. ⌜ r ≡ word (now (list .entry)) i ⌝ }
 {
     if list.len() <= i {
@@ -54,16 +59,66 @@ fn word_at(list: &[u8], i: usize) -> u32
     half_at(list, i) as u32 + 65536 * (half_at(list, i + 2) as u32)
 }
 
+// The word at i, of which the list has all.
+fn word_in(list: &[u8], i: usize) -> u32
+    requires { ⌜ i + 4 ≤ length (now list) ⌝ }
+    ensures { λ r. ⌜ r ≡ word (now (list .entry)) i ⌝ }
+{
+    list[i] as u32
+        + 256 * (list[i + 1] as u32)
+        + 65536 * (list[i + 2] as u32)
+        + 16_777_216 * (list[i + 3] as u32)
+}
+
+fn word_at(list: &[u8], i: usize) -> u32
+    ensures { λ r. ⌜ r ≡ word (now (list .entry)) i ⌝ }
+{
+    if 4 <= list.len() {
+        if i <= list.len() - 4 {
+            return word_in(list, i);
+        }
+    }
+    word_past(list, i)
+}
+
+// The two words of an entry.
+struct Words(u32, u32);
+
+// The words of the entry at i, with one test of the bounds for both. The bound on i lets i + 4 fit.
+fn words_at(list: &[u8], i: usize) -> Words
+    requires { ⌜ i < 2 ^ 63 ⌝ }
+    ensures { λ r. ⌜ (r .0 ≡ word (now (list .entry)) i) × (r .1 ≡ word (now (list .entry)) (i + 4)) ⌝ }
+{
+    if 8 <= list.len() {
+        if i <= list.len() - 8 {
+            return Words(word_in(list, i), word_in(list, i + 4));
+        }
+    }
+    Words(word_past(list, i), word_past(list, i + 4))
+}
+
 pub fn call_count(list: &[u8]) -> u32
     ensures { λ r. ⌜ r ≡ call-count (now (list .entry)) ⌝ }
 {
     word_at(list, 0)
 }
 
+pub fn call_offset(list: &[u8]) -> u32
+    ensures { λ r. ⌜ r ≡ call-offset (now (list .entry)) ⌝ }
+{
+    word_at(list, 4)
+}
+
 pub fn operation_count(list: &[u8]) -> u32
     ensures { λ r. ⌜ r ≡ operation-count (now (list .entry)) ⌝ }
 {
     word_at(list, 8)
+}
+
+pub fn operation_offset(list: &[u8]) -> u32
+    ensures { λ r. ⌜ r ≡ operation-offset (now (list .entry)) ⌝ }
+{
+    word_at(list, 12)
 }
 
 pub fn read_settings(list: &[u8]) -> Settings
@@ -81,28 +136,32 @@ pub fn read_settings(list: &[u8]) -> Settings
     }
 }
 
-pub fn call_at(list: &[u8], k: u32) -> CallEntry
+// Call k of the table that begins at start, which a walk reads once.
+pub fn call_at(list: &[u8], start: u32, k: u32) -> CallEntry
+    requires { ⌜ start ≡ call-offset (now list) ⌝ }
     ensures { λ r. ⌜ r ≡ call-at (now (list .entry)) k ⌝ }
 {
-    let at = word_at(list, 4) as usize + 8 * (k as usize);
+    let w = words_at(list, start as usize + 8 * (k as usize));
     CallEntry {
-        kind: byte_at(list, at),
-        width: byte_at(list, at + 1),
-        address: half_at(list, at + 2),
-        first: half_at(list, at + 4),
-        count: half_at(list, at + 6),
+        kind: (w.0 % 256) as u8,
+        width: (w.0 / 256 % 256) as u8,
+        address: (w.0 / 65536) as u16,
+        first: (w.1 % 65536) as u16,
+        count: (w.1 / 65536) as u16,
     }
 }
 
-pub fn operation_at(list: &[u8], j: u32) -> OperationEntry
+// Operation j of the table that begins at start, which a walk reads once.
+pub fn operation_at(list: &[u8], start: u32, j: u32) -> OperationEntry
+    requires { ⌜ start ≡ operation-offset (now list) ⌝ }
     ensures { λ r. ⌜ r ≡ operation-at (now (list .entry)) j ⌝ }
 {
-    let at = word_at(list, 12) as usize + 8 * (j as usize);
+    let w = words_at(list, start as usize + 8 * (j as usize));
     OperationEntry {
-        direction: byte_at(list, at),
-        reserved: byte_at(list, at + 1),
-        length: half_at(list, at + 2),
-        offset: word_at(list, at + 4),
+        direction: (w.0 % 256) as u8,
+        reserved: (w.0 / 256 % 256) as u8,
+        length: (w.0 / 65536) as u16,
+        offset: w.1,
     }
 }
 
@@ -158,10 +217,11 @@ fn operations_right(list: &[u8]) -> bool
     ensures { λ r. ⌜ r ≡ operations-right (data-bytes (now (list .entry))) 0 (operations (now (list .entry))) ⌝ }
 {
     let n = operation_count(list);
+    let start = operation_offset(list);
     let mut j = 0;
     let mut sum = 0;
     while j < n {
-        let o = operation_at(list, j);
+        let o = operation_at(list, start, j);
         if !operation_right(sum, o) {
             return false;
         }
@@ -171,11 +231,12 @@ fn operations_right(list: &[u8]) -> bool
     sum == word_at(list, 16) as u64
 }
 
-fn kind_right(list: &[u8], c: CallEntry) -> bool
+fn kind_right(list: &[u8], start: u32, c: CallEntry) -> bool
+    requires { ⌜ start ≡ operation-offset (now list) ⌝ }
     ensures { λ r. ⌜ r ≡ kind-right (c .kind) (operations-of (now (list .entry)) c) ⌝ }
 {
-    let first = operation_at(list, c.first as u32).direction;
-    let second = operation_at(list, c.first as u32 + 1).direction;
+    let first = operation_at(list, start, c.first as u32).direction;
+    let second = operation_at(list, start, c.first as u32 + 1).direction;
     let one_write = (c.count == 1) & (first == 0);
     let one_read = (c.count == 1) & (first == 1);
     let write_then_read = (c.count == 2) & ((first == 0) & (second == 1));
@@ -185,21 +246,24 @@ fn kind_right(list: &[u8], c: CallEntry) -> bool
         | (c.kind == 3)
 }
 
-fn call_right(list: &[u8], sum: u64, c: CallEntry) -> bool
+fn call_right(list: &[u8], start: u32, sum: u64, c: CallEntry) -> bool
+    requires { ⌜ start ≡ operation-offset (now list) ⌝ }
     ensures { λ r. ⌜ r ≡ call-right (now (list .entry)) sum c ⌝ }
 {
-    ((c.width == 7) | (c.width == 10)) & (c.first as u64 == sum) & kind_right(list, c)
+    ((c.width == 7) | (c.width == 10)) & (c.first as u64 == sum) & kind_right(list, start, c)
 }
 
 fn calls_right(list: &[u8]) -> bool
     ensures { λ r. ⌜ r ≡ calls-right (now (list .entry)) 0 (calls (now (list .entry))) ⌝ }
 {
     let n = call_count(list);
+    let call_start = call_offset(list);
+    let operation_start = operation_offset(list);
     let mut k = 0;
     let mut sum = 0;
     while k < n {
-        let c = call_at(list, k);
-        if !call_right(list, sum, c) {
+        let c = call_at(list, call_start, k);
+        if !call_right(list, operation_start, sum, c) {
             return false;
         }
         sum += c.count as u64;
@@ -224,16 +288,17 @@ fn of_the_form(list: &[u8]) -> bool
 fn too_long(o: OperationEntry) -> bool
     ensures { λ r. ⌜ r ≡ too-long o ⌝ }
 {
-    o.length > 4096
+    o.length > LONGEST_OPERATION
 }
 
 fn any_too_long(list: &[u8]) -> bool
     ensures { λ r. ⌜ r ≡ any too-long (operations (now (list .entry))) ⌝ }
 {
     let n = operation_count(list);
+    let start = operation_offset(list);
     let mut j = 0;
     while j < n {
-        if too_long(operation_at(list, j)) {
+        if too_long(operation_at(list, start, j)) {
             return true;
         }
         j += 1;
@@ -277,9 +342,10 @@ fn any_address_out(list: &[u8]) -> bool
     ensures { λ r. ⌜ r ≡ any address-out (calls (now (list .entry))) ⌝ }
 {
     let n = call_count(list);
+    let start = call_offset(list);
     let mut k = 0;
     while k < n {
-        if address_out(call_at(list, k)) {
+        if address_out(call_at(list, start, k)) {
             return true;
         }
         k += 1;
@@ -287,10 +353,11 @@ fn any_address_out(list: &[u8]) -> bool
     false
 }
 
-fn empty_blocking(list: &[u8], c: CallEntry) -> bool
+fn empty_blocking(list: &[u8], start: u32, c: CallEntry) -> bool
+    requires { ⌜ start ≡ operation-offset (now list) ⌝ }
     ensures { λ r. ⌜ r ≡ empty-blocking (now (list .entry)) c ⌝ }
 {
-    ((c.kind == 4) | (c.kind == 5)) & (operation_at(list, c.first as u32).length == 0)
+    ((c.kind == 4) | (c.kind == 5)) & (operation_at(list, start, c.first as u32).length == 0)
 }
 
 // Cause 25.
@@ -298,9 +365,11 @@ fn any_empty_blocking(list: &[u8]) -> bool
     ensures { λ r. ⌜ r ≡ any (empty-blocking (now (list .entry))) (calls (now (list .entry))) ⌝ }
 {
     let n = call_count(list);
+    let call_start = call_offset(list);
+    let operation_start = operation_offset(list);
     let mut k = 0;
     while k < n {
-        if empty_blocking(list, call_at(list, k)) {
+        if empty_blocking(list, operation_start, call_at(list, call_start, k)) {
             return true;
         }
         k += 1;
@@ -318,10 +387,11 @@ fn all_received(list: &[u8]) -> u64
     ensures { λ r. ⌜ r ≡ all-received (operations (now (list .entry))) ⌝ }
 {
     let n = operation_count(list);
+    let start = operation_offset(list);
     let mut j = 0;
     let mut sum = 0;
     while j < n {
-        sum += received(operation_at(list, j));
+        sum += received(operation_at(list, start, j));
         j += 1;
     }
     sum

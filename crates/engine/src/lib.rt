@@ -247,16 +247,18 @@ fn run_calls(
     ensures { λ r. ⌜ Ends setup (map (steps-of setup) (calls-of (now (list .entry)))) (at (now (readings .entry)) (now (log .entry)) (now (rx .entry)) bus) (now (readings .entry)) (now (log .exit)) (now (rx .exit)) (r .calls) (r .outcome) ⌝ }
 {
     let calls = buslist::call_count(list);
+    let call_start = buslist::call_offset(list);
+    let operation_start = buslist::operation_offset(list);
     let mut bus = bus;
     let mut outcome = Outcome::Well(bus);
     let mut k = 0;
     'calls: while k < calls {
-        let call = buslist::call_at(list, k);
+        let call = buslist::call_at(list, call_start, k);
         let end = call.first as u32 + call.count as u32;
         let mut j = call.first as u32;
         let mut previous = Previous::Nothing;
         while j < end {
-            let o = buslist::operation_at(list, j);
+            let o = buslist::operation_at(list, operation_start, j);
             outcome = operation(
                 list,
                 readings,

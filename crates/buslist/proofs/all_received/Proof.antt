@@ -11,13 +11,13 @@ use Rattle.buslist.proofs.all_received.Statement.{statement}
 use Rattle.buslist.proofs.all_received.Tie as tie
 
 abbrev Inv-loop : tie.InvT-loop
-Inv-loop list n j₀ sum₀ j sum = (sum ≤ 65535 * j) × (all-received (operations list) ≡ sum + all-received (entries (operation-at list) j (n - j)))
+Inv-loop list n start j₀ sum₀ j sum = (sum ≤ 65535 * j) × (all-received (operations list) ≡ sum + all-received (entries (operation-at list) j (n - j)))
 
 abbrev μ-loop : tie.MeasureT-loop
-μ-loop list n j₀ sum₀ j sum = n - j
+μ-loop list n start j₀ sum₀ j sum = n - j
 
 loop-holds : tie.Need-loop-holds Inv-loop μ-loop
-loop-holds c = (omega arith, rw (c .operation-count .ensures, sub-zero, zero-add))
+loop-holds c = (omega arith, rw (c .before .operation-count .ensures, sub-zero, zero-add))
 
 add-sum : tie.Need-add-sum Inv-loop μ-loop
 add-sum c = let t = c .before .before in omega (arith, c .received .ensures, received-le (c .before .operation-at .result), c .before .operation-at .ok)
@@ -35,6 +35,7 @@ all-received-spec =
     (tie.spec
     Inv-loop
     μ-loop
+    (λ c κs. search needs)
     (λ c κs. search needs)
     loop-holds
     (λ c κs. search needs)

@@ -10,13 +10,13 @@ use Rattle.buslist.proofs.any_address_out.Statement.{statement}
 use Rattle.buslist.proofs.any_address_out.Tie as tie
 
 abbrev Inv-loop : tie.InvT-loop
-Inv-loop list n k₀ k = any address-out (calls list) ≡ any address-out (entries (call-at list) k (n - k))
+Inv-loop list n start k₀ k = any address-out (calls list) ≡ any address-out (entries (call-at list) k (n - k))
 
 abbrev μ-loop : tie.MeasureT-loop
-μ-loop list n k₀ k = n - k
+μ-loop list n start k₀ k = n - k
 
 loop-holds : tie.Need-loop-holds Inv-loop μ-loop
-loop-holds c = rw (c .call-count .ensures, sub-zero)
+loop-holds c = rw (c .before .call-count .ensures, sub-zero)
 
 returns : tie.Need-returns Inv-loop μ-loop
 returns c = let t = c .before .before .before in sym (t .before .loop .inv ∙ any-here _ _ (t .before .loop .k) _ (t .loop-test .taken) (rw (← c .before .before .call-at .ensures, ← c .before .address-out .ensures, c .if1 .taken)))
@@ -33,6 +33,7 @@ any-address-out-spec =
     (tie.spec
     Inv-loop
     μ-loop
+    (λ c κs. search needs)
     (λ c κs. search needs)
     loop-holds
     (λ c κs. search needs)

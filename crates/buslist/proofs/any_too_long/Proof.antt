@@ -10,13 +10,13 @@ use Rattle.buslist.proofs.any_too_long.Statement.{statement}
 use Rattle.buslist.proofs.any_too_long.Tie as tie
 
 abbrev Inv-loop : tie.InvT-loop
-Inv-loop list n j₀ j = any too-long (operations list) ≡ any too-long (entries (operation-at list) j (n - j))
+Inv-loop list n start j₀ j = any too-long (operations list) ≡ any too-long (entries (operation-at list) j (n - j))
 
 abbrev μ-loop : tie.MeasureT-loop
-μ-loop list n j₀ j = n - j
+μ-loop list n start j₀ j = n - j
 
 loop-holds : tie.Need-loop-holds Inv-loop μ-loop
-loop-holds c = rw (c .operation-count .ensures, sub-zero)
+loop-holds c = rw (c .before .operation-count .ensures, sub-zero)
 
 returns : tie.Need-returns Inv-loop μ-loop
 returns c = let t = c .before .before .before in sym (t .before .loop .inv ∙ any-here _ _ (t .before .loop .j) _ (t .loop-test .taken) (rw (← c .before .before .operation-at .ensures, ← c .before .too-long .ensures, c .if1 .taken)))
@@ -33,6 +33,7 @@ any-too-long-spec =
     (tie.spec
     Inv-loop
     μ-loop
+    (λ c κs. search needs)
     (λ c κs. search needs)
     loop-holds
     (λ c κs. search needs)

@@ -11,13 +11,13 @@ use Rattle.buslist.proofs.calls_right.Statement.{statement}
 use Rattle.buslist.proofs.calls_right.Tie as tie
 
 abbrev Inv-loop : tie.InvT-loop
-Inv-loop list n k₀ sum₀ k sum = (sum ≤ 65535 * k) × (calls-right list 0 (calls list) ≡ calls-right list sum (entries (call-at list) k (n - k)))
+Inv-loop list n call-start operation-start k₀ sum₀ k sum = (sum ≤ 65535 * k) × (calls-right list 0 (calls list) ≡ calls-right list sum (entries (call-at list) k (n - k)))
 
 abbrev μ-loop : tie.MeasureT-loop
-μ-loop list n k₀ sum₀ k sum = n - k
+μ-loop list n call-start operation-start k₀ sum₀ k sum = n - k
 
 loop-holds : tie.Need-loop-holds Inv-loop μ-loop
-loop-holds c = (omega arith, rw (c .call-count .ensures, sub-zero))
+loop-holds c = (omega arith, rw (c .before .before .call-count .ensures, sub-zero))
 
 returns : tie.Need-returns Inv-loop μ-loop
 returns c = let t = c .before .before .before in sym (t .before .loop .inv .1 ∙ rw (calls-right-step _ _ _ _ _ (t .loop-test .taken), ← c .before .before .call-at .ensures, ← c .before .call-right .ensures, not-true (c .before .call-right .result) (c .if1 .taken)))
@@ -38,6 +38,8 @@ calls-right-spec =
     (tie.spec
     Inv-loop
     μ-loop
+    (λ c κs. search needs)
+    (λ c κs. search needs)
     (λ c κs. search needs)
     loop-holds
     (λ c κs. search needs)

@@ -11,13 +11,13 @@ use Rattle.buslist.proofs.operations_right.Statement.{statement}
 use Rattle.buslist.proofs.operations_right.Tie as tie
 
 abbrev Inv-loop : tie.InvT-loop
-Inv-loop list n j₀ sum₀ j sum = (sum ≤ 65535 * j) × (operations-right (data-bytes list) 0 (operations list) ≡ operations-right (data-bytes list) sum (entries (operation-at list) j (n - j)))
+Inv-loop list n start j₀ sum₀ j sum = (sum ≤ 65535 * j) × (operations-right (data-bytes list) 0 (operations list) ≡ operations-right (data-bytes list) sum (entries (operation-at list) j (n - j)))
 
 abbrev μ-loop : tie.MeasureT-loop
-μ-loop list n j₀ sum₀ j sum = n - j
+μ-loop list n start j₀ sum₀ j sum = n - j
 
 loop-holds : tie.Need-loop-holds Inv-loop μ-loop
-loop-holds c = (omega arith, rw (c .operation-count .ensures, sub-zero))
+loop-holds c = (omega arith, rw (c .before .operation-count .ensures, sub-zero))
 
 returns : tie.Need-returns Inv-loop μ-loop
 returns c = let t = c .before .before .before in sym (t .before .loop .inv .1 ∙ rw (operations-right-step _ _ _ (t .loop-test .taken), ← c .before .before .operation-at .ensures, ← c .before .operation-right .ensures, not-true (c .before .operation-right .result) (c .if1 .taken)))
@@ -38,6 +38,7 @@ operations-right-spec =
     (tie.spec
     Inv-loop
     μ-loop
+    (λ c κs. search needs)
     (λ c κs. search needs)
     loop-holds
     (λ c κs. search needs)

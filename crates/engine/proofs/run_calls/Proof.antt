@@ -19,7 +19,7 @@ use Rattle.engine.proofs.run_calls.Statement.{statement}
 use Rattle.engine.proofs.run_calls.Tie as tie
 
 abbrev Inv-loop : tie.InvT-loop
-Inv-loop list readings rx₀ log₀ setup calls bus₀ k call end j₀ previous₀ rx log bus j previous =
+Inv-loop list readings rx₀ log₀ setup calls call-start operation-start bus₀ k call end j₀ previous₀ rx log bus j previous =
     Reaches setup
     (operations-steps setup (engine-of (call .kind)) (early (call .kind)) (call .address) previous₀ (map (operation-of list) (entries (operation-at list) j₀ (end - j₀))))
     (at readings log₀ rx₀ bus₀)
@@ -28,22 +28,28 @@ Inv-loop list readings rx₀ log₀ setup calls bus₀ k call end j₀ previous�
     × (length rx ≡ length rx₀) × (length log ≡ length log₀) × (bus .got ≤ bus .used)
 
 abbrev μ-loop : tie.MeasureT-loop
-μ-loop list readings rx₀ log₀ setup calls bus₀ k call end j₀ previous₀ rx log bus j previous = end - j
+μ-loop list readings rx₀ log₀ setup calls call-start operation-start bus₀ k call end j₀ previous₀ rx log bus j previous = end - j
 
 abbrev Inv-calls : tie.InvT-calls
-Inv-calls list readings rx₀ log₀ setup calls bus₀ outcome₀ k₀ rx log bus outcome k =
+Inv-calls list readings rx₀ log₀ setup calls call-start operation-start bus₀ outcome₀ k₀ rx log bus outcome k =
     Left setup (map (steps-of setup) (calls-of list)) (at readings log₀ rx₀ bus₀) k (calls-from setup list k calls) (at readings log rx bus)
     × (length rx ≡ length rx₀) × (length log ≡ length log₀) × (bus .got ≤ bus .used) × (outcome ≡ Outcome.Well bus)
 
 abbrev μ-calls : tie.MeasureT-calls
-μ-calls list readings rx₀ log₀ setup calls bus₀ outcome₀ k₀ rx log bus outcome k = calls - k
+μ-calls list readings rx₀ log₀ setup calls call-start operation-start bus₀ outcome₀ k₀ rx log bus outcome k = calls - k
 
 call-count-requires : tie.Need-call-count-requires Inv-loop μ-loop Inv-calls μ-calls
 call-count-requires c κs = search needs
 
+call-offset-requires : tie.Need-call-offset-requires Inv-loop μ-loop Inv-calls μ-calls
+call-offset-requires c κs = search needs
+
+operation-offset-requires : tie.Need-operation-offset-requires Inv-loop μ-loop Inv-calls μ-calls
+operation-offset-requires c κs = search needs
+
 calls-holds : tie.Need-calls-holds Inv-loop μ-loop Inv-calls μ-calls
 calls-holds c =
-    (left-rewritten (calls-all _ _ _ (c .call-count .ensures)) calls-start, refl, refl, c .before .before .before .before .before .pre .1, refl)
+    (left-rewritten (calls-all _ _ _ (c .before .before .call-count .ensures)) calls-start, refl, refl, c .before .before .before .before .before .before .before .pre .1, refl)
 
 call-at-requires : tie.Need-call-at-requires Inv-loop μ-loop Inv-calls μ-calls
 call-at-requires c κs = search needs
@@ -71,8 +77,8 @@ add-operation c = search needs
 
 operation-requires : tie.Need-operation-requires Inv-loop μ-loop Inv-calls μ-calls
 operation-requires c κs =
-    let a = c .before .before .before .before .before .before .before .before .before .before .before .before .before .before .before .before in
-    let h : c .before .before .before .before .before .before .before .before .before .before .calls .k < call-count (a .args .list .now) = omega (arith, c .before .before .before .before .before .before .before .before .before .calls-test .taken, c .before .before .before .before .before .before .before .before .before .before .before .call-count .ensures) in
+    let a = c .before .before .before .before .before .before .before .before .before .before .before .before .before .before .before .before .before .before in
+    let h : c .before .before .before .before .before .before .before .before .before .before .calls .k < call-count (a .args .list .now) = omega (arith, c .before .before .before .before .before .before .before .before .before .calls-test .taken, c .before .before .before .before .before .before .before .before .before .before .before .before .before .call-count .ensures) in
     (rw (c .before .before .before .before .before .before .before .before .call-at .ensures) (call-address _ _ (a .pre .0) _ h), c .before .before .before .before .loop .inv .3)
 
 enum-known-outcome : tie.Need-enum-known-outcome Inv-loop μ-loop Inv-calls μ-calls
@@ -174,6 +180,8 @@ run-calls-spec =
     Inv-calls
     μ-calls
     call-count-requires
+    call-offset-requires
+    operation-offset-requires
     calls-holds
     call-at-requires
     cast-end
