@@ -1,3 +1,1 @@
-pub mod Mask
 pub mod Stops
-pub mod Waiting

@@ -1,4 +1,4 @@
--- Steps whose waits leave an error to the handler `stops`: nothing later matters after it, so such waits compose to one.
+-- Steps whose waits leave an error to the handler `stops`: nothing later matters after it, so such waits compose to one. And one byte of a read.
 -- Assumes nothing.
 use Prim.Native.Nat.{ℕ, zero, suc}
 use native.Mathlib.Omega.{arith}
@@ -16,6 +16,7 @@ use Rattle.registers.specs.State.{State, After, Took, at, then, taking, resume,
 use Rattle.registers.specs.Contract.{outcome, handled, Refines, Reaches, Waits}
 use Rattle.registers.proofs.Laws.{read-law, write-law, fail-law, done-law}
 use Rattle.registers.proofs.Steps.{NotWell, not-first}
+use Rattle.blocking.specs.Blocking.{receive, receive-bytes}
 
 -- what stands after a failure does not matter, nor after STOP and a failure
 failed-same : (s : Setup) (e : BusError) (p p′ : List Step) (st : State) → resume s (Step.fail e ∷ p) st ≡ resume s (Step.fail e ∷ p′) st
@@ -61,15 +62,6 @@ wait-stops {s} {q₀} {st₁} {rs} {lg} {rx} {o} x q₁ g k = record { is = λ p
     go p (Outcome.Failed e b) k = stops-same s e (q₁ ++ p) p (at rs lg rx b)
     go p (Outcome.CutShort c b) k = refl
 
--- the last thing done is a wait
-pub waits-last : {s : Setup} {h : Handler} {q : List Step} {st : State} {q₁ : List Step} {st₁ : State} → Reaches s q st q₁ st₁
-    → {rs lg rx : List ℕ} {o : Outcome} → Waits s h q₁ st₁ rs lg rx o → Waits s h q st rs lg rx o
-waits-last g x = record { is = λ p. g .is p ∙ x .is p }
-
--- nothing is left to wait for
-pub waits-well : {s : Setup} {h : Handler} {q : List Step} {st : State} {rs lg rx : List ℕ} {b : Bus} → Reaches s q st [] (at rs lg rx b) → Waits s h q st rs lg rx (Outcome.Well b)
-waits-well g = record { is = λ p. g .is p }
-
 -- the last thing done is a wait that failed, and a function that does what its handler says
 pub wait-handled : {s : Setup} {h : Handler} {q₀ : List Step} {st₁ : State} {rs lg rx : List ℕ} {o : Outcome} → Waits s h q₀ st₁ rs lg rx o
     → {q : List Step} {st : State} → Reaches s q st q₀ st₁ → {e : BusError} {b : Bus} → o ≡ Outcome.Failed e b
@@ -109,3 +101,8 @@ settles {s} {h} {q} {st} {rs} {lg} {rx} {o} u x = record { is = λ p. x .is p �
     go p (Outcome.Well b) k = refl
     go p (Outcome.Failed e b) k = absurd (u .is st e (at rs lg rx b) k)
     go p (Outcome.CutShort c b) k = refl
+
+-- a byte of a read by itself
+pub one-byte : (s : Setup) → receive-bytes s 1 ≡ receive s
+unfolding receive-bytes
+one-byte s = refl

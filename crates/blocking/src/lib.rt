@@ -4,214 +4,25 @@ use i2c::reset;
 use i2c::send_addr;
 use i2c::send_start;
 use i2c::send_stop;
-use registers::Awaited;
 use registers::Bits;
 use registers::Bus;
 use registers::BusError;
-use registers::Checked;
-use registers::Flagged;
 use registers::Outcome;
 use registers::Source;
-use registers::clear_flag;
 use registers::get;
-use registers::has;
 use registers::modify_cr1;
-use registers::outcome_of;
 use registers::read_data;
-use units::Cycles;
+use timed::busy_wait_flag;
+use timed::busy_wait_stop;
 use units::Setup;
-ghost use mathlib.Core.Path.{_≡_};
-ghost use mathlib.Core.Bool.{Bool, true, false};
 ghost use mathlib.Core.List.{List, [], _∷_, _++_};
-ghost use Prim.Native.Nat.{ℕ, _-_, _<_, _≤_};
+ghost use Prim.Native.Nat.{ℕ, _<_, _≤_};
 ghost use lib.ListN.{length};
-ghost use lib.Dec.{leb};
-ghost use Rattle.registers.specs.declared.Awaited.{Awaited};
-ghost use Rattle.registers.specs.Machine.{Step, Handler, handle, next, poll-word, poll-error, polled-register, since};
+ghost use Rattle.registers.specs.Machine.{Step, Handler, handle};
 ghost use Rattle.registers.specs.Access.{wDR};
 ghost use Rattle.registers.specs.State.{at};
 ghost use Rattle.registers.specs.Contract.{Refines, Waits};
-ghost use Rattle.blocking.specs.Poll.{waited-flag, waited, over, failed-poll};
 ghost use Rattle.blocking.specs.Blocking.{one-ready, more-ready, third-last, second-last, send-start-and-wait, send-addr-and-wait, later-bytes, read-status, write-bytes-and-wait, write-without-stop, close, receive, finish-read, read-one, two-ready, two-bytes, two-end, read-two, receive-bytes, last-three, read-more, read-arm, read-steps, close-after};
-
-// The first error flag of an SR1 word, as a poll takes them.
-fn flag_error(sr1: u32, source: Source) -> Flagged
-    ensures { λ r. ⌜ r ≡ poll-word source sr1 ⌝ }
-{
-    if has(sr1, registers::BERR) {
-        return Flagged::Error(BusError::Bus);
-    }
-    if has(sr1, registers::ARLO) {
-        return Flagged::Error(BusError::ArbitrationLoss);
-    }
-    if has(sr1, registers::AF) {
-        return Flagged::Error(BusError::NoAcknowledge(source));
-    }
-    if has(sr1, registers::OVR) {
-        return Flagged::Error(BusError::Overrun);
-    }
-    Flagged::Nothing
-}
-
-// The error that a poll finds in the word that it read.
-fn poll_error(word: u32, awaited: Awaited) -> Flagged
-    ensures { λ r. ⌜ r ≡ poll-error awaited word ⌝ }
-{
-    match awaited {
-        Awaited::Flag(_, source) => flag_error(word, source),
-        Awaited::Stop => Flagged::Nothing,
-    }
-}
-
-// Whether an SR1 word has this flag and none of BERR, ARLO, AF and OVR: one test for all of them.
-fn wait_for_flag(sr1: u32, flag: u32) -> bool
-    requires { ⌜ waited-flag flag ≡ true ⌝ }
-    ensures { λ r. ⌜ ((source : Source) → r ≡ over (Awaited.Flag flag source) sr1) ⌝ }
-{
-    sr1 & (0x0f00 + flag) == flag
-}
-
-// Whether a CR1 word has STOP clear.
-fn wait_for_stop(cr1: u32) -> bool
-    ensures { λ r. ⌜ r ≡ over Awaited.Stop cr1 ⌝ }
-{
-    !has(cr1, registers::STOP)
-}
-
-// Whether a poll that read this word ends its wait well.
-fn wait_over(word: u32, awaited: Awaited) -> bool
-    requires { ⌜ waited awaited ≡ true ⌝ }
-    ensures { λ r. ⌜ r ≡ over awaited word ⌝ }
-{
-    match awaited {
-        Awaited::Flag(flag, _) => wait_for_flag(word, flag),
-        Awaited::Stop => wait_for_stop(word),
-    }
-}
-
-// The register that a poll reads.
-fn polled_register(awaited: Awaited) -> u32
-    ensures { λ r. ⌜ r ≡ polled-register awaited ⌝ }
-{
-    match awaited {
-        Awaited::Flag(_, _) => registers::SR1,
-        Awaited::Stop => registers::CR1,
-    }
-}
-
-// Whether the time from start to now reaches the limit. The counter wraps.
-fn timed_out(start: u32, now: u32, limit: Cycles) -> bool
-    ensures { λ r. ⌜ r ≡ leb (limit .0) (since start «now») ⌝ }
-{
-    limit.0 <= std::num::wrapping_sub_u32(now, start) as u64
-}
-
-// A poll whose error flag was cleared with this outcome.
-fn failed_poll(o: Outcome, error: BusError) -> Outcome
-    ensures { λ r. ⌜ r ≡ failed-poll o error ⌝ }
-{
-    match o {
-        Outcome::Well(bus) => Outcome::Failed(error, bus),
-        Outcome::Failed(e, bus) => Outcome::Failed(e, bus),
-        Outcome::CutShort(cut, bus) => Outcome::CutShort(cut, bus),
-    }
-}
-
-// The rest of a timed wait whose poll has read this word. Its error is left to the caller.
-fn busy_wait(
-    readings: &[u32],
-    log: &mut [u32],
-    bus: Bus,
-    word: u32,
-    awaited: Awaited,
-    start: u32,
-    limit: Cycles,
-) -> Outcome
-    requires { ⌜ waited awaited ≡ true ⌝ }
-    ensures { λ r. ⌜ ((s : Setup) (h : Handler) (rx : List ℕ) → Waits s h (next s (Step.poll awaited (limit .0) h start) word) (at (now (readings .entry)) (now (log .entry)) rx bus) (now (readings .entry)) (now (log .exit)) rx r) ⌝ }
-{
-    let mut bus = bus;
-    let mut word = word;
-    while !wait_over(word, awaited) {
-        let flagged = poll_error(word, awaited);
-        if let Flagged::Error(error) = flagged {
-            return failed_poll(clear_flag(log, bus, error), error);
-        }
-        let c = registers::read(readings, log, bus, registers::CYC);
-        let Checked::Word(cycles, later) = c else {
-            return outcome_of(c);
-        };
-        if timed_out(start, cycles, limit) {
-            return Outcome::Failed(BusError::Timeout, later);
-        }
-        let d = registers::read(readings, log, later, polled_register(awaited));
-        let Checked::Word(again, next) = d else {
-            return outcome_of(d);
-        };
-        bus = next;
-        word = again;
-    }
-    Outcome::Well(bus)
-}
-
-// A timed wait for a flag of SR1. Its error is left to the caller.
-fn busy_wait_flag(
-    readings: &[u32],
-    log: &mut [u32],
-    bus: Bus,
-    flag: u32,
-    source: Source,
-    limit: Cycles,
-) -> Outcome
-    requires { ⌜ waited-flag flag ≡ true ⌝ }
-    ensures { λ r. ⌜ ((s : Setup) (h : Handler) (rx : List ℕ) → Waits s h (Step.timed (Awaited.Flag flag source) (limit .0) h ∷ []) (at (now (readings .entry)) (now (log .entry)) rx bus) (now (readings .entry)) (now (log .exit)) rx r) ⌝ }
-{
-    let c = registers::read(readings, log, bus, registers::CYC);
-    let Checked::Word(start, bus1) = c else {
-        return outcome_of(c);
-    };
-    let d = registers::read(readings, log, bus1, registers::SR1);
-    let Checked::Word(sr1, bus2) = d else {
-        return outcome_of(d);
-    };
-    if wait_for_flag(sr1, flag) {
-        return Outcome::Well(bus2);
-    }
-    // A copy, so that bus2 is never in memory where the wait is over at once.
-    let waiting = Bus {
-        used: bus2.used,
-        made: bus2.made,
-        got: bus2.got,
-    };
-    let awaited = Awaited::Flag(flag, source);
-    let o = busy_wait(readings, log, waiting, sr1, awaited, start, limit);
-    o
-}
-
-// A timed wait for STOP to clear in CR1.
-fn busy_wait_stop(readings: &[u32], log: &mut [u32], bus: Bus, limit: Cycles) -> Outcome
-    ensures { λ r. ⌜ ((s : Setup) (h : Handler) (rx : List ℕ) → Waits s h (Step.timed Awaited.Stop (limit .0) h ∷ []) (at (now (readings .entry)) (now (log .entry)) rx bus) (now (readings .entry)) (now (log .exit)) rx r) ⌝ }
-{
-    let c = registers::read(readings, log, bus, registers::CYC);
-    let Checked::Word(start, bus1) = c else {
-        return outcome_of(c);
-    };
-    let d = registers::read(readings, log, bus1, registers::CR1);
-    let Checked::Word(cr1, bus2) = d else {
-        return outcome_of(d);
-    };
-    if wait_for_stop(cr1) {
-        return Outcome::Well(bus2);
-    }
-    // A copy, as for a flag.
-    let waiting = Bus {
-        used: bus2.used,
-        made: bus2.made,
-        got: bus2.got,
-    };
-    let o = busy_wait(readings, log, waiting, cr1, Awaited::Stop, start, limit);
-    o
-}
 
 // Start, at most retries times; the last answer holds.
 fn send_start_and_wait(readings: &[u32], log: &mut [u32], bus: Bus, setup: Setup) -> Outcome

@@ -1,6 +1,6 @@
 -- How a function's answer carries the run on: where it is a word or well, to what is left of the steps; where not, to the end.
 -- Assumes nothing.
-use Prim.Native.Nat.{ℕ, zero, suc, _+_, _≤_, _<_}
+use Prim.Native.Nat.{ℕ, zero, suc, _+_, _-_, _≤_, _<_}
 use native.Mathlib.Omega.{arith}
 use mathlib.Core.Bool.{true, false}
 use mathlib.Core.Logic.{⊎-elim}
@@ -117,7 +117,11 @@ pub data-step : {s : Setup} {st : State} {rs lg rx : List ℕ} {r : Checked} →
 unfolding next
 data-step {s} {st} x e f = record { is = λ p. read-law s (Step.get DR) DR p st refl refl ∙ rw (← x .is, e, f) }
 
--- what a word read says of the accesses that still fit: fewer
+-- the accesses that still fit
+abbrev pub fitting : List ℕ → Bus → ℕ
+fitting lg b = entries-in (length lg) - b .made
+
+-- what a word read says of them: fewer
 pub record Fell (lg : List ℕ) (b b′ : Bus) : Type 0 where
   pub fits : b .made < entries-in (length lg)
   pub more : b .made < b′ .made
@@ -233,3 +237,12 @@ wait-last {s} {h} {q₀} {st₁} {rs} {lg} {rx} {o} x g k = record { is = λ p. 
     go p (Outcome.Well b) k = refl
     go p (Outcome.Failed e b) k = ⊎-elim (λ (e : _≡_ {A = ℕ} 1 0). absurd (omega arith)) (λ (e : _≡_ {A = ℕ} 1 2). absurd (omega arith)) k
     go p (Outcome.CutShort c b) k = refl
+
+-- the last thing done is a wait
+pub waits-last : {s : Setup} {h : Handler} {q : List Step} {st : State} {q₁ : List Step} {st₁ : State} → Reaches s q st q₁ st₁
+    → {rs lg rx : List ℕ} {o : Outcome} → Waits s h q₁ st₁ rs lg rx o → Waits s h q st rs lg rx o
+waits-last g x = record { is = λ p. g .is p ∙ x .is p }
+
+-- nothing is left to wait for
+pub waits-well : {s : Setup} {h : Handler} {q : List Step} {st : State} {rs lg rx : List ℕ} {b : Bus} → Reaches s q st [] (at rs lg rx b) → Waits s h q st rs lg rx (Outcome.Well b)
+waits-well g = record { is = λ p. g .is p }

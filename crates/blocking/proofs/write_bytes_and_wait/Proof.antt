@@ -9,8 +9,8 @@ use Rattle.registers.specs.Word.{BTF}
 use Rattle.registers.specs.Access.{SR1, SR2, wDR}
 use Rattle.registers.specs.Machine.{Step}
 use Rattle.blocking.specs.Blocking.{read-status, write-wait, later-bytes, write-bytes-and-wait}
-use Rattle.blocking.proofs.Stops.{wait-stops, waits-last, nothing-fails, get-unfailing, put-unfailing, settles}
-use Rattle.registers.proofs.Steps.{here, call-step, rewritten, wait-step}
+use Rattle.blocking.proofs.Stops.{wait-stops, nothing-fails, get-unfailing, put-unfailing, settles}
+use Rattle.registers.proofs.Steps.{here, call-step, rewritten, wait-step, waits-last}
 use borrow.Author.Needs.{needs}
 use Rattle.blocking.proofs.write_bytes_and_wait.Statement.{statement}
 use Rattle.blocking.proofs.write_bytes_and_wait.Tie as tie

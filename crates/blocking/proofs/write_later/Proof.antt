@@ -15,8 +15,8 @@ use Rattle.registers.specs.Machine.{Step, Handler}
 use Rattle.registers.specs.State.{at}
 use Rattle.registers.specs.Contract.{Reaches}
 use Rattle.blocking.specs.Blocking.{later-bytes}
-use Rattle.blocking.proofs.Stops.{wait-stops, waits-well, nothing-fails, put-unfailing, settles}
-use Rattle.registers.proofs.Steps.{here, write-step, write-last, rewritten, wait-step}
+use Rattle.blocking.proofs.Stops.{wait-stops, nothing-fails, put-unfailing, settles}
+use Rattle.registers.proofs.Steps.{here, write-step, write-last, rewritten, wait-step, waits-well}
 use borrow.Author.Needs.{needs}
 use Rattle.blocking.proofs.write_later.Statement.{statement}
 use Rattle.blocking.proofs.write_later.Tie as tie

@@ -2,8 +2,8 @@ use native.Mathlib.Omega.{arith}
 use mathlib.Core.Path.{refl, sym, _∙_}
 use mathlib.Core.List.{[]}
 use Rattle.registers.specs.Machine.{Step}
-use Rattle.registers.proofs.Steps.{here, read-step, read-stops, ends-well, read-fell}
-use Rattle.i2c.proofs.Waits.{Waiting, fitting, next-master}
+use Rattle.registers.proofs.Steps.{here, read-step, read-stops, ends-well, read-fell, fitting}
+use Rattle.i2c.proofs.Waits.{Waiting, next-master}
 use borrow.Author.Needs.{needs}
 use Rattle.i2c.proofs.until_master.Statement.{statement}
 use Rattle.i2c.proofs.until_master.Tie as tie

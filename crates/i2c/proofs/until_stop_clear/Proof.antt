@@ -3,8 +3,8 @@ use mathlib.Core.Path.{refl, sym, _∙_}
 use mathlib.Core.List.{[]}
 use borrow.Author.Tests.{not-true, not-false}
 use Rattle.registers.specs.Machine.{Step}
-use Rattle.registers.proofs.Steps.{here, read-step, read-stops, ends-well, read-fell}
-use Rattle.i2c.proofs.Waits.{Waiting, fitting, next-stop-clear}
+use Rattle.registers.proofs.Steps.{here, read-step, read-stops, ends-well, read-fell, fitting}
+use Rattle.i2c.proofs.Waits.{Waiting, next-stop-clear}
 use borrow.Author.Needs.{needs}
 use Rattle.i2c.proofs.until_stop_clear.Statement.{statement}
 use Rattle.i2c.proofs.until_stop_clear.Tie as tie

@@ -13,7 +13,7 @@ use Rattle.registers.specs.declared.Flagged.{Flagged}
 use Rattle.registers.specs.declared.Source.{Source}
 use Rattle.registers.specs.Word.{has}
 use Rattle.registers.specs.Machine.{poll-word, poll-error, poll-ready}
-use Rattle.blocking.specs.Poll.{waited-flag, no-error, over}
+use Rattle.timed.specs.Poll.{waited-flag, no-error, over}
 
 -- f is the weight of one of the low eight bits
 pub record Low (f : ℕ) : Type 0 where

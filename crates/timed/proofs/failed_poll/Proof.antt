@@ -1,6 +1,6 @@
 use borrow.Author.Needs.{needs}
-use Rattle.blocking.proofs.failed_poll.Statement.{statement}
-use Rattle.blocking.proofs.failed_poll.Tie as tie
+use Rattle.timed.proofs.failed_poll.Statement.{statement}
+use Rattle.timed.proofs.failed_poll.Tie as tie
 
 returns : tie.Need-returns
 returns c = rw (c .before .o .given .1)

@@ -1,9 +1,9 @@
 use mathlib.Core.Path.{refl, sym, _∙_}
 use borrow.Author.Needs.{needs}
 use Rattle.registers.proofs.Steps.{here}
-use Rattle.blocking.proofs.Waiting.{wait-none, wait-unread, wait-at-once, wait-longer}
-use Rattle.blocking.proofs.busy_wait_stop.Statement.{statement}
-use Rattle.blocking.proofs.busy_wait_stop.Tie as tie
+use Rattle.timed.proofs.Waiting.{wait-none, wait-unread, wait-at-once, wait-longer}
+use Rattle.timed.proofs.busy_wait_stop.Statement.{statement}
+use Rattle.timed.proofs.busy_wait_stop.Tie as tie
 
 returns : tie.Need-returns
 returns c s h rx = rw (c .outcome-of .ensures) (wait-none here (c .before .before .before .before .read .ensures rx) refl refl (c .before .match .keys2))

@@ -9,12 +9,10 @@ use Rattle.units.specs.declared.Setup.{Setup}
 use Rattle.registers.specs.Machine.{Step, Handler, next}
 use Rattle.registers.specs.State.{at}
 use Rattle.registers.specs.Contract.{Reaches}
-use Rattle.registers.proofs.Steps.{here, rewritten, read-step, read-fell}
-use Rattle.i2c.proofs.Waits.{fitting}
-use Rattle.blocking.proofs.Stops.{waits-well}
-use Rattle.blocking.proofs.Waiting.{next-over, next-waits, next-late, polled-read, poll-step, wait-none, wait-failed, wait-handled}
-use Rattle.blocking.proofs.busy_wait.Statement.{statement}
-use Rattle.blocking.proofs.busy_wait.Tie as tie
+use Rattle.registers.proofs.Steps.{here, rewritten, read-step, fitting, read-fell, waits-well}
+use Rattle.timed.proofs.Waiting.{next-over, next-waits, next-late, polled-read, poll-step, wait-none, wait-failed, ends-handled}
+use Rattle.timed.proofs.busy_wait.Statement.{statement}
+use Rattle.timed.proofs.busy_wait.Tie as tie
 
 -- the loop comes back to what a poll makes of the word that it read
 abbrev Inv-loop : tie.InvT-loop
@@ -47,7 +45,7 @@ returns-3 : tie.Need-returns-3 Inv-loop μ-loop
 returns-3 c s h rx =
     let told = c .before .before .before .before .before .before .before .before .before in
     let late = rewritten (next-waits s _ _ h _ _ (sym (told .before .before .before .before .wait-over .ensures) ∙ not-true _ (told .before .before .before .if1 .taken)) (sym (told .before .before .poll-error .ensures) ∙ told .enum-told .given .1)) (told .before .before .before .before .before .loop .inv .0 s h rx) in
-    wait-handled (read-step late (c .before .before .before .before .before .before .before .read .ensures rx) refl refl refl (c .before .before .before .c .given .1) (next-late s _ _ h _ _ (sym (c .before .timed-out .ensures) ∙ c .if2 .taken)))
+    ends-handled (read-step late (c .before .before .before .before .before .before .before .read .ensures rx) refl refl refl (c .before .before .before .c .given .1) (next-late s _ _ h _ _ (sym (c .before .timed-out .ensures) ∙ c .if2 .taken)))
 
 read-requires-2 : tie.Need-read-requires-2 Inv-loop μ-loop
 read-requires-2 c κs = rw (c .polled-register .ensures) (polled-read (c .before .before .before .before .before .before .before .before .before .before .before .before .before .before .before .before .before .before .before .args .awaited))

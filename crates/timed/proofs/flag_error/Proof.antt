@@ -3,8 +3,8 @@ use mathlib.Core.Path.{_≡_, sym, _∙_}
 use Rattle.registers.specs.Word.{has, BERR, ARLO, AF}
 use Rattle.registers.specs.Machine.{poll-word}
 use borrow.Author.Needs.{needs}
-use Rattle.blocking.proofs.flag_error.Statement.{statement}
-use Rattle.blocking.proofs.flag_error.Tie as tie
+use Rattle.timed.proofs.flag_error.Statement.{statement}
+use Rattle.timed.proofs.flag_error.Tie as tie
 
 -- the flags that were not set
 none1 : (c : tie.Else1) → has BERR (c .before .before .args .sr1) ≡ false

@@ -3,9 +3,9 @@ use mathlib.Core.Path.{ap}
 use borrow.Author.Needs.{needs}
 use Rattle.registers.specs.Word.{has}
 use Rattle.registers.specs.Machine.{poll-error, poll-ready}
-use Rattle.blocking.specs.Poll.{over}
-use Rattle.blocking.proofs.wait_for_stop.Statement.{statement}
-use Rattle.blocking.proofs.wait_for_stop.Tie as tie
+use Rattle.timed.specs.Poll.{over}
+use Rattle.timed.proofs.wait_for_stop.Statement.{statement}
+use Rattle.timed.proofs.wait_for_stop.Tie as tie
 
 returns : tie.Need-returns
 unfolding over poll-error poll-ready

@@ -1,6 +1,6 @@
 use borrow.Author.Needs.{needs}
-use Rattle.blocking.proofs.wait_over.Statement.{statement}
-use Rattle.blocking.proofs.wait_over.Tie as tie
+use Rattle.timed.proofs.wait_over.Statement.{statement}
+use Rattle.timed.proofs.wait_over.Tie as tie
 
 wait-for-flag-requires : tie.Need-wait-for-flag-requires
 wait-for-flag-requires c κs = rw (c .before .awaited .given .1) at (c .before .before .before .pre)

@@ -1,7 +1,7 @@
 use borrow.Author.Needs.{needs}
 use Rattle.registers.specs.Machine.{poll-error}
-use Rattle.blocking.proofs.poll_error.Statement.{statement}
-use Rattle.blocking.proofs.poll_error.Tie as tie
+use Rattle.timed.proofs.poll_error.Statement.{statement}
+use Rattle.timed.proofs.poll_error.Tie as tie
 
 returns : tie.Need-returns
 unfolding poll-error

@@ -18,10 +18,8 @@ use Rattle.registers.specs.Machine.{Step, Handler, Access, access, next, handle
 use Rattle.registers.specs.State.{State, After, Took, at, then, room, left, resume, read-one, read, write-one, write}
 use Rattle.registers.specs.Contract.{outcome, checked, outcome-of, handled, Reads, Writes, Reaches, Waits}
 use Rattle.registers.proofs.Laws.{write-law}
-use Rattle.registers.proofs.Steps.{NoWord, here, rewritten, read-step, read-stops}
-use Rattle.blocking.proofs.Stops.{waits-well}
-use Rattle.blocking.specs.Poll.{no-error, over, failed-poll}
-use Rattle.blocking.specs.Blocking.{receive, receive-bytes}
+use Rattle.registers.proofs.Steps.{NoWord, here, rewritten, read-step, read-stops, waits-well, waits-last}
+use Rattle.timed.specs.Poll.{no-error, over, failed-poll}
 
 -- a read and a write meet no bus error
 read-unfailed : (c : ℕ) (st : State) {e : BusError} {st′ : State} → Took.failed e st′ ≡ read c st → ⊥
@@ -117,9 +115,9 @@ wait-none {s} {h} {st₁ = st₁} g {c} {rs} {lg} {rx} {r} x a t n = record { is
     go p (Checked.Failed e b) y = absurd (read-unfailed c st₁ y)
     go p (Checked.CutShort k b) y = refl
 
-pub wait-handled : {s : Setup} {h : Handler} {q : List Step} {st : State} {rs lg rx : List ℕ} {e : BusError} {b : Bus}
+pub ends-handled : {s : Setup} {h : Handler} {q : List Step} {st : State} {rs lg rx : List ℕ} {e : BusError} {b : Bus}
     → Reaches s q st (handle s h e ++ []) (at rs lg rx b) → Waits s h q st rs lg rx (Outcome.Failed e b)
-wait-handled g = record { is = λ p. g .is p ∙ rw append-nil }
+ends-handled g = record { is = λ p. g .is p ∙ rw append-nil }
 
 -- a wait by its first CYC read and its first poll: no word; over at once; or the rest of it
 module _ {s : Setup} {w : Awaited} {l : ℕ} {h : Handler} {st : State} {rs lg rx : List ℕ} {r : Checked} (x : Reads CYC st rs lg rx r) {t : ℕ} {b : Bus} (e : r ≡ Checked.Word t b)
@@ -135,14 +133,9 @@ module _ {s : Setup} {w : Awaited} {l : ℕ} {h : Handler} {st : State} {rs lg r
     wait-at-once o = waits-well (rewritten (next-over s w l h t v o) (poll-step first-poll y f))
 
     pub wait-longer : {lg″ : List ℕ} {o : Outcome} → Waits s h (next s (Step.poll w l h t) v) (at rs lg′ rx b′) rs lg″ rx o → Waits s h (Step.timed w l h ∷ []) st rs lg″ rx o
-    wait-longer z = record { is = λ p. poll-step first-poll y f .is p ∙ z .is p }
+    wait-longer z = waits-last (poll-step first-poll y f) z
 
 -- the wrapped difference
 pub since-is : (r t v : ℕ) → (r + t) % 2 ^ 32 ≡ v → r < 2 ^ 32 → t < 2 ^ 32 → r ≡ since t v
 unfolding since
 since-is r t v e h k = omega arith
-
--- a byte of a read by itself
-pub one-byte : (s : Setup) → receive-bytes s 1 ≡ receive s
-unfolding receive-bytes
-one-byte s = refl

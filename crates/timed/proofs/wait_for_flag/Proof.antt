@@ -1,7 +1,7 @@
 use native.Mathlib.Omega.{arith}
-use Rattle.blocking.proofs.Mask.{flag-tested, waited-low}
-use Rattle.blocking.proofs.wait_for_flag.Statement.{statement}
-use Rattle.blocking.proofs.wait_for_flag.Tie as tie
+use Rattle.timed.proofs.Mask.{flag-tested, waited-low}
+use Rattle.timed.proofs.wait_for_flag.Statement.{statement}
+use Rattle.timed.proofs.wait_for_flag.Tie as tie
 
 add-result : tie.Need-add-result
 add-result c = omega (arith, waited-low (c .args .flag) (c .pre) .small)
