@@ -45,7 +45,7 @@ or-not-iff false b = (λ e. (refl, e), λ e. e .1)
 ruleset tests = (and-eq-true-iff, eqb-iff, leb-iff, or-not-iff, eqb-not-iff, leb-not-iff)
 
 -- no cause applies
-pub record Accepted (l : List ℕ) (rx : ℕ) : Type 0 where
+pub record NoCause (l : List ℕ) (rx : ℕ) : Type 0 where
   pub form : of-the-form l ≡ true
   pub limits : over-limit l ≡ false
   pub frequency : frequency-out (settings-of l .frequency) ≡ false
@@ -60,7 +60,7 @@ passed true n rest e h = absurd (omega arith)
 passed false n rest e h = (refl, e)
 
 -- where the refusal is 0, no cause applies
-pub accepted : (l : List ℕ) (rx : ℕ) → refusal l rx ≡ 0 → Accepted l rx
+pub accepted : (l : List ℕ) (rx : ℕ) → refusal l rx ≡ 0 → NoCause l rx
 unfolding refusal causes first-cause
 accepted l rx ok =
     let e1 = passed _ _ _ ok (lit< tt) in

@@ -11,7 +11,7 @@ use Rattle.buslist.specs.declared.CallEntry.{CallEntry}
 use Rattle.buslist.specs.declared.OperationEntry.{OperationEntry}
 use Rattle.buslist.specs.Bytes.{byte, half, word}
 use Rattle.buslist.specs.Table.{entries}
-use Rattle.buslist.specs.Form.{is-write, is-read, written, operation-right, operations-right, has-directions, call-right, calls-right}
+use Rattle.buslist.specs.Form.{write-direction, read-direction, written, operation-right, operations-right, has-directions, call-right, calls-right}
 use Rattle.buslist.specs.Refusal.{any, received, all-received}
 
 -- past the end every number is 0
@@ -33,11 +33,11 @@ cond-le false n = omega arith
 -- an operation has no more than its length
 pub written-le : (o : OperationEntry) → written o ≤ o .length
 unfolding written
-written-le o = cond-le (is-write o) (o .length)
+written-le o = cond-le (write-direction o) (o .length)
 
 pub received-le : (o : OperationEntry) → received o ≤ o .length
 unfolding received
-received-le o = cond-le (is-read o) (o .length)
+received-le o = cond-le (read-direction o) (o .length)
 
 module _ {A : Type 0} (entry : ℕ → A) (j n : ℕ) where
   pub entries-step : j < n → entries entry j (n - j) ≡ entry j ∷ entries entry (j + 1) (n - (j + 1))

@@ -25,19 +25,19 @@ header-right l =
     && eqb (length l) (data-offset l + data-bytes l)
 
 -- direction 0 is a write, 1 a read
-abbrev pub is-write : OperationEntry → Bool
-is-write o = eqb (o .direction) 0
+abbrev pub write-direction : OperationEntry → Bool
+write-direction o = eqb (o .direction) 0
 
-abbrev pub is-read : OperationEntry → Bool
-is-read o = eqb (o .direction) 1
+abbrev pub read-direction : OperationEntry → Bool
+read-direction o = eqb (o .direction) 1
 
 -- what an operation has of the data part: a write its length, a read nothing
 unfoldable pub written : OperationEntry → ℕ
-written o = cond (is-write o) (o .length) 0
+written o = cond (write-direction o) (o .length) 0
 
 -- an operation after writes of `sum` bytes: a write or a read; a zero byte; data offset `sum` for a write, 0 for a read
 unfoldable pub operation-right : ℕ → OperationEntry → Bool
-operation-right sum o = eqb (o .reserved) 0 && (is-write o && eqb (o .offset) sum || is-read o && eqb (o .offset) 0)
+operation-right sum o = eqb (o .reserved) 0 && (write-direction o && eqb (o .offset) sum || read-direction o && eqb (o .offset) 0)
 
 -- operations after writes of `sum` bytes, of a list with `total` data bytes: each is right, and write lengths sum to D
 unfoldable pub operations-right : ℕ → ℕ → List OperationEntry → Bool

@@ -6,7 +6,7 @@ use lib.ListN.{take, drop}
 use Rattle.buslist.specs.declared.CallEntry.{CallEntry}
 use Rattle.buslist.specs.declared.OperationEntry.{OperationEntry}
 use Rattle.buslist.specs.Table.{data-offset, operations-of, calls}
-use Rattle.buslist.specs.Form.{is-write}
+use Rattle.buslist.specs.Form.{write-direction}
 
 -- an operation: a write by its bytes, or a read by its length
 pub data Operation : Type 0 where
@@ -24,7 +24,7 @@ abbrev pub bytes-of : List ℕ → OperationEntry → List ℕ
 bytes-of l o = take (o .length) (drop (data-offset l + o .offset) l)
 
 unfoldable pub operation-of : List ℕ → OperationEntry → Operation
-operation-of l o = cond (is-write o) (write (bytes-of l o)) (read (o .length))
+operation-of l o = cond (write-direction o) (write (bytes-of l o)) (read (o .length))
 
 abbrev pub call-of : List ℕ → CallEntry → Call
 call-of l c = record { kind = c .kind; address = c .address; operations = map (operation-of l) (operations-of l c) }

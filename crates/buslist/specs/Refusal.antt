@@ -12,7 +12,7 @@ use Rattle.units.specs.Speed.{frequency-out}
 use Rattle.buslist.specs.declared.CallEntry.{CallEntry}
 use Rattle.buslist.specs.declared.OperationEntry.{OperationEntry}
 use Rattle.buslist.specs.Table.{call-count, operation-count, settings-of, calls, operations, operation-at}
-use Rattle.buslist.specs.Form.{is-read, of-the-form}
+use Rattle.buslist.specs.Form.{read-direction, of-the-form}
 
 -- one of them passes the test
 unfoldable pub any : {A : Type 0} → (A → Bool) → List A → Bool
@@ -52,7 +52,7 @@ empty-blocking l c = (eqb (c .kind) 4 || eqb (c .kind) 5) && eqb (operation-at l
 
 -- what an operation receives: a read its length, a write nothing
 unfoldable pub received : OperationEntry → ℕ
-received o = cond (is-read o) (o .length) 0
+received o = cond (read-direction o) (o .length) 0
 
 -- all reads together
 unfoldable pub all-received : List OperationEntry → ℕ

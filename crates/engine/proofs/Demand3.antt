@@ -37,12 +37,12 @@ unfolding settings-of
 same-settings l m e = cc
 
 -- the run of calls with settings
-abbrev calls-run : Settings → List Call → ℕ → List ℕ → Run
-calls-run settings calls words readings = whole-run (setup-of settings) (map (steps-of (setup-of settings)) calls) (entries-in words) readings
+abbrev run-of-calls : Settings → List Call → ℕ → List ℕ → Run
+run-of-calls settings calls words readings = whole-run (setup-of settings) (map (steps-of (setup-of settings)) calls) (entries-in words) readings
 
 -- an accepted list is run, with settings that are its own
 accepted : (l readings : List ℕ) (rx words : ℕ) → Accepted l rx → {settings : Settings} → settings-of l ≡ settings
-    → run l readings rx words ≡ result 0 (calls-run settings (calls-of l) words readings)
+    → run l readings rx words ≡ result 0 (run-of-calls settings (calls-of l) words readings)
 unfolding run accepted-run
 accepted l readings rx words ok same = rw (ok, same)
 

@@ -19,14 +19,14 @@ use Rattle.registers.specs.Access.{entries-in, record-of, received-of, reads, n
 use Rattle.registers.specs.Machine.{Step, Run, whole-run, bring-up}
 use Rattle.registers.specs.State.{at, room, left, resume}
 use Rattle.engine.specs.Calls.{steps-of}
-use Rattle.engine.specs.Whole.{nothing-yet, Final, after-calls, calls-run, bus-of, final}
-use Rattle.engine.specs.Run.{run, result, accepted-run, counts-of, filled, Meant, ended-counts}
+use Rattle.engine.specs.Whole.{nothing-yet, Final, after-calls, calls-run, bus-of, ended-counts, final}
+use Rattle.engine.specs.Run.{run, result, accepted-run, counts-of, filled, Meant, Runs}
 use Rattle.engine.proofs.RunLaws.{final-of, whole-run-is, replay-is, filled-is, record-length, whole-room}
 use Rattle.engine.proofs.Received.{received-fits}
 
 -- a refused list: the refusal, no access, and nothing changed
 pub refused-meant : (l rs rx lg : List ℕ) → (refusal l (length rx) ≡ 0 → ⊥)
-    → Meant (run l rs (length rx) (length lg)) rx lg rx lg (record { answer = refusal l (length rx); calls = 0; used = 0; made = 0; got = 0 })
+    → Runs l rs rx lg rx lg (record { answer = refusal l (length rx); calls = 0; used = 0; made = 0; got = 0 })
 unfolding run result counts-of filled record-of received-of reads
 refused-meant l rs rx lg h =
     record { counts = rw (ne-eqb _ _ h); received = rw (ne-eqb _ _ h); recorded = rw (ne-eqb _ _ h) }
@@ -43,7 +43,7 @@ left-start rs lg rx = refl
 pub accepted-meant : (l rs rx lg : List ℕ) {rx′ lg′ : List ℕ} (k : ℕ) (o : Outcome) → refusal l (length rx) ≡ 0
     → (s : Setup) → s ≡ setup-of (settings-of l)
     → after-calls 0 (resume s (bring-up s) (at rs lg rx nothing-yet)) (calls-run s (map (steps-of s) (calls-of l))) ≡ final rs lg′ rx′ k o
-    → Meant (run l rs (length rx) (length lg)) rx lg rx′ lg′ (ended-counts o k)
+    → Runs l rs rx lg rx′ lg′ (ended-counts o k)
 unfolding run result accepted-run counts-of
 accepted-meant l rs rx lg {rx′} {lg′} k o ok t f e′ =
     let e = rw f at e′ in

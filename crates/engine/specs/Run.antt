@@ -11,13 +11,10 @@ use Rattle.buslist.specs.Table.{settings-of}
 use Rattle.buslist.specs.Refusal.{refusal}
 use Rattle.buslist.specs.Meaning.{calls-of}
 use Rattle.registers.specs.declared.Entry.{Entry}
-use Rattle.registers.specs.declared.Outcome.{Outcome}
-use Rattle.registers.specs.Contract.{ending-of}
 use Rattle.registers.specs.Access.{entries-in, record-of, reads, received-of, number}
 use Rattle.registers.specs.Machine.{Run, whole-run}
 use Rattle.engine.specs.declared.Counts.{Counts}
 use Rattle.engine.specs.Calls.{steps-of}
-use Rattle.engine.specs.Whole.{bus-of}
 
 -- a run: its answer, calls ended well before it stopped, and its log of accesses
 pub record Result : Type 0 where
@@ -64,19 +61,16 @@ pub record Meant (r : Result) (rx lg rx′ lg′ : List ℕ) (c : Counts) : Type
   pub received : rx′ ≡ filled rx (received-of (r .log))
   pub recorded : lg′ ≡ filled lg (record-of (r .log))
 
--- the answer and the counts that an outcome gives after so many calls
-abbrev pub ended-counts : Outcome → ℕ → Counts
-ended-counts o calls =
-    record {
-      answer = number (ending-of o);
-      calls = calls;
-      used = bus-of o .used;
-      made = bus-of o .made;
-      got = bus-of o .got;
-    }
+-- the run of this list on these readings: what the buffers held before and hold after, and what it counted
+abbrev pub Runs : (list readings rx lg rx′ lg′ : List ℕ) → Counts → Type 0
+Runs list readings rx lg rx′ lg′ c = Meant (run list readings (length rx) (length lg)) rx lg rx′ lg′ c
+
+-- the answer and the four counts in the order returned
+abbrev pub in-order : Counts → List ℕ
+in-order c = c .answer ∷ c .calls ∷ c .used ∷ c .made ∷ c .got ∷ []
 
 -- the same for hosts, with the answer and the counts in an array
-pub record HostMeant (r : Result) (rx lg rx′ lg′ cs : List ℕ) : Type 0 where
-  pub counts : cs ≡ r .answer ∷ r .calls ∷ reads (r .log) ∷ length (r .log) ∷ length (received-of (r .log)) ∷ []
-  pub received : rx′ ≡ filled rx (received-of (r .log))
-  pub recorded : lg′ ≡ filled lg (record-of (r .log))
+pub record HostRuns (list readings rx lg rx′ lg′ array : List ℕ) : Type 0 where
+  pub counts : Counts
+  pub runs : Runs list readings rx lg rx′ lg′ counts
+  pub told : array ≡ in-order counts

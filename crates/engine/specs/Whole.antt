@@ -5,10 +5,11 @@ use mathlib.Core.List.{List, [], _∷_}
 use Rattle.units.specs.declared.Setup.{Setup}
 use Rattle.registers.specs.declared.Bus.{Bus}
 use Rattle.registers.specs.declared.Outcome.{Outcome}
-use Rattle.registers.specs.Access.{Ending}
+use Rattle.registers.specs.Access.{Ending, number}
 use Rattle.registers.specs.Machine.{Step}
 use Rattle.registers.specs.State.{State, After, at, resume}
 use Rattle.registers.specs.Contract.{ending-of}
+use Rattle.engine.specs.declared.Counts.{Counts}
 
 -- nothing read, made or received as yet
 abbrev pub nothing-yet : Bus
@@ -38,6 +39,17 @@ abbrev pub bus-of : Outcome → Bus
 bus-of (Outcome.Well b) = b
 bus-of (Outcome.Failed e b) = b
 bus-of (Outcome.CutShort c b) = b
+
+-- the answer and the counts that an outcome gives after so many calls
+abbrev pub ended-counts : Outcome → ℕ → Counts
+ended-counts o calls =
+    record {
+      answer = number (ending-of o);
+      calls = calls;
+      used = bus-of o .used;
+      made = bus-of o .made;
+      got = bus-of o .got;
+    }
 
 -- a run that ended with this outcome after k calls
 abbrev pub final : List ℕ → List ℕ → List ℕ → ℕ → Outcome → Final

@@ -18,8 +18,8 @@ ghost use Rattle.registers.specs.Contract.{Refines};
 ghost use Rattle.i2c.specs.Polling.{direction, operation-steps as polling-operation};
 ghost use Rattle.blocking.specs.Blocking.{operation-steps as blocking-operation};
 ghost use Rattle.engine.specs.Calls.{engine-of, early, steps-of, operation-steps, moved, end-steps, empty};
-ghost use Rattle.engine.specs.Whole.{Ends, bus-of};
-ghost use Rattle.engine.specs.Run.{run, Meant, HostMeant, ended-counts};
+ghost use Rattle.engine.specs.Whole.{Ends, bus-of, ended-counts};
+ghost use Rattle.engine.specs.Run.{Runs, HostRuns};
 ghost use Rattle.engine.specs.Speed.{speed-out, speed-cr2, speed-trise, speed-ccr};
 
 // How a run ended: its answer, calls ended well, readings used, accesses made, bytes received.
@@ -316,7 +316,7 @@ fn counts_of(outcome: Outcome, calls: usize) -> Counts
 // The run of an accepted list: the bring-up, then the calls.
 fn run_accepted(list: &[u8], readings: &[u32], rx: &mut [u8], log: &mut [u32]) -> Counts
     requires { ⌜ refusal (now list) (length (now rx)) ≡ 0 ⌝ }
-    ensures { λ r. ⌜ Meant (run (now (list .entry)) (now (readings .entry)) (length (now (rx .entry))) (length (now (log .entry)))) (now (rx .entry)) (now (log .entry)) (now (rx .exit)) (now (log .exit)) r ⌝ }
+    ensures { λ r. ⌜ Runs (now (list .entry)) (now (readings .entry)) (now (rx .entry)) (now (log .entry)) (now (rx .exit)) (now (log .exit)) r ⌝ }
 {
     let setup = units::setup_of(buslist::read_settings(list));
     let start = Bus {
@@ -335,7 +335,7 @@ fn run_accepted(list: &[u8], readings: &[u32], rx: &mut [u8], log: &mut [u32]) -
 
 // The run of a bus list on these readings: the accesses go to the record `log`, the received bytes to `rx`.
 pub fn run(list: &[u8], readings: &[u32], rx: &mut [u8], log: &mut [u32]) -> Counts
-    ensures { λ r. ⌜ Meant (run (now (list .entry)) (now (readings .entry)) (length (now (rx .entry))) (length (now (log .entry)))) (now (rx .entry)) (now (log .entry)) (now (rx .exit)) (now (log .exit)) r ⌝ }
+    ensures { λ r. ⌜ Runs (now (list .entry)) (now (readings .entry)) (now (rx .entry)) (now (log .entry)) (now (rx .exit)) (now (log .exit)) r ⌝ }
 {
     let refused = buslist::refusal(list, rx.len());
     if refused != 0 {
@@ -359,7 +359,7 @@ pub extern "C" fn bus_run(
     log: &mut [u32],
     counts: &mut [u64; 5],
 )
-    ensures { λ _. ⌜ HostMeant (run (now (list .entry)) (now (readings .entry)) (length (now (rx .entry))) (length (now (log .entry)))) (now (rx .entry)) (now (log .entry)) (now (rx .exit)) (now (log .exit)) (now (counts .exit)) ⌝ }
+    ensures { λ _. ⌜ HostRuns (now (list .entry)) (now (readings .entry)) (now (rx .entry)) (now (log .entry)) (now (rx .exit)) (now (log .exit)) (now (counts .exit)) ⌝ }
 {
     let c = run(list, readings, rx, log);
     let all = [
@@ -374,14 +374,14 @@ pub extern "C" fn bus_run(
 
 // The run, with the answer and the counts in the caller's struct, whatever it held.
 pub fn run_into(list: &[u8], readings: &[u32], rx: &mut [u8], log: &mut [u32], counts: &mut Counts)
-    ensures { λ _. ⌜ Meant (run (now (list .entry)) (now (readings .entry)) (length (now (rx .entry))) (length (now (log .entry)))) (now (rx .entry)) (now (log .entry)) (now (rx .exit)) (now (log .exit)) (now (counts .exit)) ⌝ }
+    ensures { λ _. ⌜ Runs (now (list .entry)) (now (readings .entry)) (now (rx .entry)) (now (log .entry)) (now (rx .exit)) (now (log .exit)) (now (counts .exit)) ⌝ }
 {
     *counts = run(list, readings, rx, log);
 }
 
 // The run, by a struct that is lent to be changed in place.
 pub fn run_counted(list: &[u8], readings: &[u32], rx: &mut [u8], log: &mut [u32]) -> Counts
-    ensures { λ c. ⌜ Meant (run (now (list .entry)) (now (readings .entry)) (length (now (rx .entry))) (length (now (log .entry)))) (now (rx .entry)) (now (log .entry)) (now (rx .exit)) (now (log .exit)) c ⌝ }
+    ensures { λ c. ⌜ Runs (now (list .entry)) (now (readings .entry)) (now (rx .entry)) (now (log .entry)) (now (rx .exit)) (now (log .exit)) c ⌝ }
 {
     let mut counts = Counts {
         answer: 0,
