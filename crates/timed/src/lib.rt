@@ -24,6 +24,9 @@ ghost use Rattle.registers.specs.State.{at};
 ghost use Rattle.registers.specs.Contract.{Waits};
 ghost use Rattle.timed.specs.Poll.{waited-flag, waited, over, failed-poll};
 
+// BERR, ARLO, AF and OVR.
+const ERRORS: u32 = 0x0f00;
+
 // The first error flag of an SR1 word, as a poll takes them.
 fn flag_error(sr1: u32, source: Source) -> Flagged
     ensures { λ r. ⌜ r ≡ poll-word source sr1 ⌝ }
@@ -53,12 +56,12 @@ fn poll_error(word: u32, awaited: Awaited) -> Flagged
     }
 }
 
-// Whether an SR1 word has this flag and none of BERR, ARLO, AF and OVR: one test for all of them.
+// Whether an SR1 word has this flag and no error flag: one test for all of them.
 fn wait_for_flag(sr1: u32, flag: u32) -> bool
     requires { ⌜ waited-flag flag ≡ true ⌝ }
     ensures { λ r. ⌜ ((source : Source) → r ≡ over (Awaited.Flag flag source) sr1) ⌝ }
 {
-    sr1 & (0x0f00 + flag) == flag
+    sr1 & (ERRORS + flag) == flag
 }
 
 // Whether a CR1 word has STOP clear.
