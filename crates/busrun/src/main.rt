@@ -1,5 +1,7 @@
 // Runs the bus list in `list.bin` on the readings in `readings.bin`, both in the current folder, and prints every
 // access, the received bytes and how the run ended.
+use buffers::first_bytes;
+use buffers::first_words;
 use engine::Counts;
 
 // What became of a file: its bytes, from the buffer's start, or a failure that has been reported.
@@ -41,57 +43,6 @@ fn read_file(name: &[u8], buf: &mut [u8]) -> File {
     file
 }
 
-// The byte at `at`, 0 past the end.
-fn byte_at(bytes: &[u8], at: usize) -> u8 {
-    if at < bytes.len() { bytes[at] } else { 0 }
-}
-
-// The half word of the two bytes from `at` on, low byte first.
-fn half_at(bytes: &[u8], at: usize) -> u16 {
-    if bytes.len() <= at {
-        return 0;
-    }
-    byte_at(bytes, at) as u16 + 256 * (byte_at(bytes, at + 1) as u16)
-}
-
-// The word of the four bytes from `at` on, low byte first.
-fn word_at(bytes: &[u8], at: usize) -> u32 {
-    if bytes.len() <= at {
-        return 0;
-    }
-    half_at(bytes, at) as u32 + 65536 * (half_at(bytes, at + 2) as u32)
-}
-
-// The whole words among the first `size` bytes, as far as there is room. The answer is how many.
-fn to_words(bytes: &[u8], size: usize, words: &mut [u32]) -> usize {
-    let mut k: usize = 0;
-    while k < words.len() {
-        if size / 4 <= k {
-            return k;
-        }
-        words[k] = word_at(bytes, k * 4);
-        k += 1;
-    }
-    k
-}
-
-// The run of the list's first bytes on the first readings.
-fn run(
-    list: &[u8],
-    size: usize,
-    readings: &[u32],
-    count: usize,
-    rx: &mut [u8],
-    log: &mut [u32],
-) -> Counts {
-    if size <= list.len() {
-        if count <= readings.len() {
-            return engine::run(&list[..size], &readings[..count], rx, log);
-        }
-    }
-    engine::run(list, readings, rx, log)
-}
-
 // Access number `k` of the record, on a line of its own.
 fn print_access(log: &[u32], k: usize) -> bool {
     if log.len() / 2 <= k {
@@ -114,10 +65,7 @@ fn print_received(rx: &[u8], got: usize) -> bool {
     if got == 0 {
         return true;
     }
-    if rx.len() < got {
-        return true;
-    }
-    show::received(&rx[..got]) && show::line_end()
+    show::received(first_bytes(rx, got)) && show::line_end()
 }
 
 fn print_run(rx: &[u8], log: &[u32], c: Counts) -> bool {
@@ -139,10 +87,15 @@ fn main() {
         return;
     };
     let mut readings = [0u32; 16000];
-    let count = to_words(&bytes, length, &mut readings);
+    let count = buffers::to_words(first_bytes(&bytes, length), &mut readings);
     let mut rx = io::buffer();
     let mut log = [0u32; 16000];
-    let c = run(&list, size, &readings, count, &mut rx, &mut log);
+    let c = engine::run(
+        first_bytes(&list, size),
+        first_words(&readings, count),
+        &mut rx,
+        &mut log,
+    );
     if !print_run(&rx, &log, c) {
         os::fail(b"standard output");
     }

@@ -7,6 +7,11 @@
 // them alone, with no run, by the line below:
 //
 //   od -An -v -w4 -tu4 --endian=little data/vectors.bin | awk '{w[NR-1]=$1}END{for(i=0;i<NR;i+=9+int((w[i]+3)/4)+w[i+1]+2*w[i+7]+int((w[i+8]+3)/4)){n[w[i+4]]++;c++}for(a=0;a<27;a++)if(n[a])print "answer " a ": " n[a] " cases";print c " cases, 0 differ"}' > stdout
+use buffers::first_bytes;
+use buffers::first_words;
+use buffers::run_on;
+use buffers::to_words;
+use buffers::word_at;
 use engine::Counts;
 use libc::STDOUT_FILENO;
 ghost use Prim.Native.Nat.{_≤_};
@@ -70,22 +75,6 @@ fn print_number(n: usize) {
     io::print_decimal(STDOUT_FILENO, n as u64);
 }
 
-// The half word of two bytes, low byte first.
-fn half(low: u8, high: u8) -> u16 {
-    low as u16 + 256 * (high as u16)
-}
-
-// Word number `k` of the bytes, low byte first; 0 past the end.
-fn word_at(bytes: &[u8], k: usize) -> u32 {
-    if bytes.len() / 4 <= k {
-        return 0;
-    }
-    let at = 4 * k;
-    let low = half(bytes[at], bytes[at + 1]);
-    let high = half(bytes[at + 2], bytes[at + 3]);
-    low as u32 + 65536 * (high as u32)
-}
-
 // The words that so many bytes take.
 fn in_words(bytes: u32) -> usize
     ensures { λ r. ⌜ r ≤ 1073741824 ⌝ }
@@ -104,35 +93,6 @@ fn part(bytes: &[u8], from: usize, words: usize) -> &[u8] {
         }
     }
     bytes
-}
-
-// The first `count` bytes.
-fn first_bytes(bytes: &[u8], count: usize) -> &[u8] {
-    if count <= bytes.len() {
-        return &bytes[..count];
-    }
-    bytes
-}
-
-// The first `count` words.
-fn first_words(words: &[u32], count: usize) -> &[u32] {
-    if count <= words.len() {
-        return &words[..count];
-    }
-    words
-}
-
-// The bytes as words, as far as there is room. The answer is how many.
-fn to_words(bytes: &[u8], words: &mut [u32]) -> usize {
-    let mut k: usize = 0;
-    while k < words.len() {
-        if bytes.len() / 4 <= k {
-            return k;
-        }
-        words[k] = word_at(bytes, k);
-        k += 1;
-    }
-    k
 }
 
 fn case_of(head: &[u8]) -> Case {
@@ -309,23 +269,6 @@ fn compare(body: &[u8], case: Case, rx: &[u8], log: &[u32], c: Counts) -> Differ
         return Difference::Nothing;
     }
     Difference::PastTheEnd
-}
-
-// The run with buffers of the case's lengths.
-fn run_on(
-    list: &[u8],
-    readings: &[u32],
-    rx: &mut [u8],
-    room: usize,
-    log: &mut [u32],
-    words: usize,
-) -> Counts {
-    if room <= rx.len() {
-        if words <= log.len() {
-            return engine::run(list, readings, &mut rx[..room], &mut log[..words]);
-        }
-    }
-    engine::run(list, readings, rx, log)
 }
 
 // One run more with this answer. No count can wrap, since there are not so many cases; the wrapping sum spares the

@@ -16,6 +16,9 @@
 // are hexadecimal with as many digits as are printed, and a case has at most one line each of g and c.
 //
 //   awk 'BEGIN{split("r sr1,r sr2,r cr1,r dr,r cyc,,,,,,w cr1,w cr2,w ccr,w trise,w sr1,w dr",R,",")}function t(x){print "  document " x ", run " x}{sub(/ *#.*/,"")}$1=="="{print $2 ":";x="";n++}$1=="a"{for(i=2;i<NF;i+=2)t(R[$i] " " substr($(i+1),3))}$1=="g"{x="rx";for(i=2;i<=NF;i++)x=x " " substr($i,3)}$1=="c"{$1="end";c=$0}$1=="!"{if(x!="")t(x);t(c);print "  agrees"}END{print n " cases, 0 differ"}' stdin > stdout
+use buffers::first_bytes;
+use buffers::first_words;
+use buffers::run_on;
 use cases::byte;
 use cases::number;
 use cases::print_name;
@@ -106,45 +109,12 @@ fn put(
     after
 }
 
-// The first `count` bytes.
-fn first_bytes(bytes: &[u8], count: usize) -> &[u8] {
-    if count <= bytes.len() {
-        return &bytes[..count];
-    }
-    bytes
-}
-
-// The first `count` words.
-fn first_words(words: &[u32], count: usize) -> &[u32] {
-    if count <= words.len() {
-        return &words[..count];
-    }
-    words
-}
-
 // The words of the first `made` accesses of a record.
 fn made_words(log: &[u32], made: usize) -> &[u32] {
     if made <= log.len() / 2 {
         return &log[..2 * made];
     }
     log
-}
-
-// The run with buffers of the case's lengths.
-fn run_on(
-    list: &[u8],
-    readings: &[u32],
-    rx: &mut [u8],
-    room: usize,
-    log: &mut [u32],
-    words: usize,
-) -> Counts {
-    if room <= rx.len() {
-        if words <= log.len() {
-            return engine::run(list, readings, &mut rx[..room], &mut log[..words]);
-        }
-    }
-    engine::run(list, readings, rx, log)
 }
 
 // The word at `at`, 0 past the end.

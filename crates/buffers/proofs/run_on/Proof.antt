@@ -2,8 +2,8 @@ use borrow.Author.Needs.{needs}
 use native.Mathlib.Omega.{arith}
 use mathlib.Core.Path.{sym}
 use lib.Seq.{length-take-le}
-use Rattle.replay.proofs.run_on.Statement.{statement}
-use Rattle.replay.proofs.run_on.Tie as tie
+use Rattle.buffers.proofs.run_on.Statement.{statement}
+use Rattle.buffers.proofs.run_on.Tie as tie
 
 slice-aggregate-run : tie.Need-slice-aggregate-run
 slice-aggregate-run c = sym (length-take-le _ _ (omega arith))
