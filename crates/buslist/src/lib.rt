@@ -3,14 +3,13 @@ use units::Hertz;
 use units::Micros;
 use units::Settings;
 ghost use mathlib.Core.Path.{_≡_};
-ghost use Rattle.units.specs.Speed.{frequency-out};
 ghost use Prim.Native.Nat.{min, _+_, _≤_, _<_, _^_};
 ghost use lib.ListN.{length};
 ghost use Rattle.buslist.specs.Bytes.{byte, half, word};
 ghost use Rattle.buslist.specs.Table.{call-count, call-offset, operation-count, operation-offset, settings-of, call-at, operation-at, operations-of, calls, operations, data-bytes};
 ghost use Rattle.buslist.specs.Form.{header-right, written, operation-right, operations-right, kind-right, call-right, calls-right, of-the-form};
 ghost use Rattle.buslist.specs.Meaning.{bytes-of};
-ghost use Rattle.buslist.specs.Refusal.{any, longest-operation, too-long, over-limit, too-many-cycles, timeout-out, address-out, empty-blocking, received, all-received, refusal};
+ghost use Rattle.buslist.specs.Refusal.{any, too-long, over-limit, too-many-cycles, timeout-out, address-out, empty-blocking, received, all-received, refusal};
 
 // A call as its 8 bytes have it.
 pub struct CallEntry {

@@ -1,6 +1,6 @@
 // Registers, one access at a time: the words and bits of RM0008, how a call can end, one read and one write.
 ghost use mathlib.Core.Path.{_≡_};
-ghost use mathlib.Core.Bool.{Bool, true, false};
+ghost use mathlib.Core.Bool.{true, false};
 ghost use mathlib.Core.List.{List, [], _∷_};
 ghost use Prim.Native.Nat.{ℕ, _+_, _*_, _<_, _≤_, _^_};
 ghost use lib.ListN.{length};

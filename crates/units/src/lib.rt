@@ -1,7 +1,6 @@
 // Units of frequency and time, the settings of a run, and the register words that they give.
 ghost use mathlib.Core.Path.{_≡_};
-ghost use mathlib.Core.Bool.{Bool};
-ghost use Prim.Native.Nat.{ℕ, _*_, _/_, _<_};
+ghost use Prim.Native.Nat.{_*_, _/_, _<_};
 ghost use Rattle.units.specs.Time.{to-mhz, to-cycles};
 ghost use Rattle.units.specs.Speed.{mode-known, mode-of, frequency-out, cr2-word, trise-word, divisor, floor, speed-flags, ccr-field, ccr-word};
 ghost use Rattle.units.specs.Setup.{setup-of};
