@@ -7,13 +7,13 @@ use mathlib.Core.Path.{_≡_, refl, sym, _∙_}
 use mathlib.Core.List.{List, [], _∷_, _++_, append-assoc, append-nil}
 use Rattle.units.specs.declared.Setup.{Setup}
 use Rattle.registers.specs.declared.BusError.{BusError}
-use Rattle.registers.specs.declared.Bus.{Bus}
+use Rattle.registers.specs.declared.Progress.{Progress}
 use Rattle.registers.specs.declared.Outcome.{Outcome}
 use Rattle.registers.specs.Word.{with-bits, without-bits, one, none, STOP}
 use Rattle.registers.specs.Access.{CR1, wCR1, is-read}
 use Rattle.registers.specs.Machine.{Step, Handler, handle, stop-for, next}
 use Rattle.registers.specs.State.{State, After, Took, at, then, taking, resume, room, left, read-one, read, write-one, write, received, entry}
-use Rattle.registers.specs.Contract.{outcome, handled, Refines, Reaches, Waits}
+use Rattle.registers.specs.Contract.{outcome, handled, Refines, Reaches, WaitsFrom}
 use Rattle.registers.proofs.Laws.{read-law, write-law, fail-law, done-law}
 use Rattle.registers.proofs.Steps.{NotWell, not-first}
 use Rattle.blocking.specs.Blocking.{receive, receive-bytes}
@@ -53,8 +53,8 @@ stops-same s BusError.Crc = failed-same s _
 stops-same s BusError.ArbitrationLoss = failed-same s _
 
 -- a wait that did not go well ends all
-pub wait-stops : {s : Setup} {q₀ : List Step} {st₁ : State} {rs lg rx : List ℕ} {o : Outcome} → Waits s Handler.stops q₀ st₁ rs lg rx o
-    → (q₁ : List Step) {q : List Step} {st : State} → Reaches s q st (q₀ ++ q₁) st₁ → NotWell o → Waits s Handler.stops q st rs lg rx o
+pub wait-stops : {s : Setup} {q₀ : List Step} {st₁ : State} {rs lg rx : List ℕ} {o : Outcome} → WaitsFrom s Handler.stops q₀ st₁ rs lg rx o
+    → (q₁ : List Step) {q : List Step} {st : State} → Reaches s q st (q₀ ++ q₁) st₁ → NotWell o → WaitsFrom s Handler.stops q st rs lg rx o
 wait-stops {s} {q₀} {st₁} {rs} {lg} {rx} {o} x q₁ g k = record { is = λ p. g .is p ∙ rw append-assoc (x .is (q₁ ++ p) ∙ go p o k) }
   where
     go : (p : List Step) (o : Outcome) → NotWell o → handled s Handler.stops rs lg rx o (q₁ ++ p) ≡ handled s Handler.stops rs lg rx o p
@@ -63,8 +63,8 @@ wait-stops {s} {q₀} {st₁} {rs} {lg} {rx} {o} x q₁ g k = record { is = λ p
     go p (Outcome.CutShort c b) k = refl
 
 -- the last thing done is a wait that failed, and a function that does what its handler says
-pub wait-handled : {s : Setup} {h : Handler} {q₀ : List Step} {st₁ : State} {rs lg rx : List ℕ} {o : Outcome} → Waits s h q₀ st₁ rs lg rx o
-    → {q : List Step} {st : State} → Reaches s q st q₀ st₁ → {e : BusError} {b : Bus} → o ≡ Outcome.Failed e b
+pub wait-handled : {s : Setup} {h : Handler} {q₀ : List Step} {st₁ : State} {rs lg rx : List ℕ} {o : Outcome} → WaitsFrom s h q₀ st₁ rs lg rx o
+    → {q : List Step} {st : State} → Reaches s q st q₀ st₁ → {e : BusError} {b : Progress} → o ≡ Outcome.Failed e b
     → {rs′ lg′ rx′ : List ℕ} {o′ : Outcome} → Refines s (handle s h e) (at rs lg rx b) rs′ lg′ rx′ o′ → Refines s q st rs′ lg′ rx′ o′
 wait-handled x g k y = record { is = λ p. g .is p ∙ x .is p ∙ rw k (y .is p) }
 
@@ -94,7 +94,7 @@ put-unfailing {s} c v t {q} u = record { is = λ st e st′ h. go st e st′ (ro
     go st e st′ (suc n) h = u .is _ e st′ h
 
 -- so no error of theirs is left to a handler
-pub settles : {s : Setup} {h : Handler} {q : List Step} {st : State} {rs lg rx : List ℕ} {o : Outcome} → Unfailing s q → Refines s q st rs lg rx o → Waits s h q st rs lg rx o
+pub settles : {s : Setup} {h : Handler} {q : List Step} {st : State} {rs lg rx : List ℕ} {o : Outcome} → Unfailing s q → Refines s q st rs lg rx o → WaitsFrom s h q st rs lg rx o
 settles {s} {h} {q} {st} {rs} {lg} {rx} {o} u x = record { is = λ p. x .is p ∙ go p o (rw append-nil at (x .is [])) }
   where
     go : (p : List Step) (o : Outcome) → resume s q st ≡ then (outcome rs lg rx o) (resume s []) → then (outcome rs lg rx o) (resume s p) ≡ handled s h rs lg rx o p

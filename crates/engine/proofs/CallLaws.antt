@@ -3,7 +3,7 @@
 use Prim.Native.Nat.{ℕ, zero, suc, _+_, _-_, _≤_, _<_}
 use native.Mathlib.Omega.{arith}
 use native.Mathlib.Nat.{add-zero, zero-add, add-assoc, sub-zero}
-use mathlib.Core.Bool.{Bool, true, false}
+use mathlib.Core.Bool.{Bool, true, false, cond}
 use mathlib.Core.Path.{_≡_, refl, _∙_}
 use mathlib.Core.List.{List, [], _∷_, _++_, map, append-nil}
 use lib.Dec.{eqb, leb}
@@ -14,7 +14,7 @@ use Rattle.buslist.specs.declared.CallEntry.{CallEntry}
 use Rattle.buslist.specs.Meaning.{Operation, operation-of, call-of, calls-of}
 use Rattle.buslist.specs.Table.{call-count, call-at, operation-at, entries}
 use Rattle.buslist.proofs.Walk.{entries-step, entries-end}
-use Rattle.registers.specs.declared.Bus.{Bus}
+use Rattle.registers.specs.declared.Progress.{Progress}
 use Rattle.registers.specs.declared.Outcome.{Outcome}
 use Rattle.registers.specs.Machine.{Step}
 use Rattle.registers.specs.State.{State, at, resume, then}
@@ -24,8 +24,8 @@ use Rattle.registers.proofs.Steps.{NotWell, not-first}
 use Rattle.i2c.specs.declared.Previous.{Previous}
 use Rattle.i2c.specs.Polling.{polling-steps, is-last}
 use Rattle.blocking.specs.Blocking.{blocking-steps}
-use Rattle.engine.specs.Calls.{Engine, engine-of, early, steps-of, operations-steps, operation-steps, moved, end-steps}
-use Rattle.engine.specs.Whole.{Final, more-calls, after-calls, calls-run, final, Ends, Left}
+use Rattle.engine.specs.Calls.{Engine, engine-of, early, steps-of, operations-steps}
+use Rattle.engine.specs.Whole.{is-polling, operation-steps, moved, end-steps, Final, more-calls, after-calls, calls-run, final, Ends, Left}
 
 -- no call is done yet
 pub calls-start : {s : Setup} {cs : List (List Step)} {st : State} → Left s cs st 0 cs st
@@ -48,12 +48,12 @@ module _ {s : Setup} {cs : List (List Step)} {st : State} {k : ℕ} {c : List St
       go (Outcome.CutShort a b) e h = rw (e, add-zero)
 
   -- the call that ends well leaves the calls after it
-  pub next-call : {b : Bus} {o : Outcome} → Refines s c st₁ rs lg rx o → o ≡ Outcome.Well b → Left s cs st (k + 1) cs′ (at rs lg rx b)
+  pub next-call : {b : Progress} {o : Outcome} → Refines s c st₁ rs lg rx o → o ≡ Outcome.Well b → Left s cs st (k + 1) cs′ (at rs lg rx b)
   unfolding calls-run
   next-call {b} y e = record { is = x .is ∙ rw (whole-call y, e, done-law, add-assoc) }
 
 -- no call is left
-pub calls-end : {s : Setup} {cs : List (List Step)} {st : State} {k : ℕ} {rs lg rx : List ℕ} {b : Bus}
+pub calls-end : {s : Setup} {cs : List (List Step)} {st : State} {k : ℕ} {rs lg rx : List ℕ} {b : Progress}
     → Left s cs st k [] (at rs lg rx b) → Ends s cs st rs lg rx k (Outcome.Well b)
 unfolding calls-run
 calls-end x = record { is = x .is ∙ rw add-zero }
@@ -63,14 +63,29 @@ pub not-a-write : (l : List ℕ) (o : OperationEntry) → (o .direction ≡ 0 �
 unfolding operation-of
 not-a-write l o h = rw (ne-eqb _ _ h)
 
--- the engine of a kind, by its test
-pub is-polling-kind : (kind : ℕ) → leb kind 3 ≡ true → engine-of kind ≡ Engine.polling
-unfolding engine-of
-is-polling-kind kind t = rw t
+-- the engine of a call, by its test
+pub polling-call : (kind : ℕ) → is-polling (engine-of kind) ≡ true → engine-of kind ≡ Engine.polling
+polling-call kind = go (engine-of kind)
+  where
+    go : (e : Engine) → is-polling e ≡ true → e ≡ Engine.polling
+    go Engine.polling t = refl
+    go Engine.blocking t = let z : _≡_ {A = ℕ} 0 1 = cc in absurd (omega arith)
 
-pub is-blocking-kind : (kind : ℕ) → leb kind 3 ≡ false → engine-of kind ≡ Engine.blocking
+pub blocking-call : (kind : ℕ) → is-polling (engine-of kind) ≡ false → engine-of kind ≡ Engine.blocking
+blocking-call kind = go (engine-of kind)
+  where
+    go : (e : Engine) → is-polling e ≡ false → e ≡ Engine.blocking
+    go Engine.polling t = let z : _≡_ {A = ℕ} 0 1 = cc in absurd (omega arith)
+    go Engine.blocking t = refl
+
+-- kinds 0 to 3
+pub polling-kinds : (kind : ℕ) → leb kind 3 ≡ is-polling (engine-of kind)
 unfolding engine-of
-is-blocking-kind kind t = rw t
+polling-kinds kind = go (leb kind 3)
+  where
+    go : (t : Bool) → t ≡ is-polling (cond t Engine.polling Engine.blocking)
+    go true = refl
+    go false = refl
 
 -- a call, one operation at a time
 module _ (s : Setup) (early : Bool) (a : ℕ) (previous : Previous) where
@@ -148,5 +163,5 @@ module _ {s : Setup} {q : List Step} {st : State} {rs lg rx : List ℕ} {o : Out
       go (Outcome.CutShort a b) h = refl
 
   -- it is done: the run goes on with the calls
-  pub first-done : {b : Bus} → o ≡ Outcome.Well b → after-calls 0 (resume s q st) f ≡ f (at rs lg rx b)
+  pub first-done : {b : Progress} → o ≡ Outcome.Well b → after-calls 0 (resume s q st) f ≡ f (at rs lg rx b)
   first-done e = rw (first-steps, e, done-law, zero-add)

@@ -13,20 +13,20 @@ use Rattle.units.specs.Setup.{setup-of}
 use Rattle.buslist.specs.Table.{settings-of}
 use Rattle.buslist.specs.Refusal.{refusal}
 use Rattle.buslist.specs.Meaning.{calls-of}
-use Rattle.registers.specs.declared.Bus.{Bus}
+use Rattle.registers.specs.declared.Progress.{Progress}
 use Rattle.registers.specs.declared.Outcome.{Outcome}
 use Rattle.registers.specs.Access.{entries-in, record-of, received-of, reads, number}
 use Rattle.registers.specs.Machine.{Step, Run, whole-run, bring-up}
 use Rattle.registers.specs.State.{at, room, left, resume}
 use Rattle.engine.specs.Calls.{steps-of}
-use Rattle.engine.specs.Whole.{nothing-yet, Final, after-calls, calls-run, bus-of, ended-counts, final}
-use Rattle.engine.specs.Run.{run, result, accepted-run, counts-of, filled, Meant, Runs}
+use Rattle.engine.specs.Whole.{nothing-yet, Final, after-calls, calls-run, progress-of, ended-counts, final}
+use Rattle.engine.specs.Run.{run, result, accepted-run, counts-of, filled, Meant, RunsTo}
 use Rattle.engine.proofs.RunLaws.{final-of, whole-run-is, replay-is, filled-is, record-length, whole-room}
 use Rattle.engine.proofs.Received.{received-fits}
 
 -- a refused list: the refusal, no access, and nothing changed
 pub refused-meant : (l rs rx lg : List ℕ) → (refusal l (length rx) ≡ 0 → ⊥)
-    → Runs l rs rx lg rx lg (record { answer = refusal l (length rx); calls = 0; used = 0; made = 0; got = 0 })
+    → RunsTo l rs rx lg rx lg (record { answer = refusal l (length rx); calls = 0; used = 0; made = 0; got = 0 })
 unfolding run result counts-of filled record-of received-of reads
 refused-meant l rs rx lg h =
     record { counts = rw (ne-eqb _ _ h); received = rw (ne-eqb _ _ h); recorded = rw (ne-eqb _ _ h) }
@@ -43,7 +43,7 @@ left-start rs lg rx = refl
 pub accepted-meant : (l rs rx lg : List ℕ) {rx′ lg′ : List ℕ} (k : ℕ) (o : Outcome) → refusal l (length rx) ≡ 0
     → (s : Setup) → s ≡ setup-of (settings-of l)
     → after-calls 0 (resume s (bring-up s) (at rs lg rx nothing-yet)) (calls-run s (map (steps-of s) (calls-of l))) ≡ final rs lg′ rx′ k o
-    → Runs l rs rx lg rx′ lg′ (ended-counts o k)
+    → RunsTo l rs rx lg rx′ lg′ (ended-counts o k)
 unfolding run result accepted-run counts-of
 accepted-meant l rs rx lg {rx′} {lg′} k o ok t f e′ =
     let e = rw f at e′ in
@@ -61,16 +61,16 @@ accepted-meant l rs rx lg {rx′} {lg′} k o ok t f e′ =
         → final rs lg′ rx′ k o ≡ final-of (at rs lg rx nothing-yet) r
         → Meant (record { answer = number (r .ending); calls = r .calls; log = r .log }) rx lg rx′ lg′ (ended-counts o k)
     go r fits room e =
-        let f : at rs lg′ rx′ (bus-of o)
+        let f : at rs lg′ rx′ (progress-of o)
         ≡ at rs (sets lg 0 (record-of (r .log))) (sets rx 0 (received-of (r .log)))
         (record { used = reads (r .log); made = length (r .log); got = length (received-of (r .log)) })
         = ap (λ (z : Final). z .state) e ∙ replay-is (r .log) rs lg rx nothing-yet ∙ simp zero-add in
-        let b : bus-of o ≡ record { used = reads (r .log); made = length (r .log); got = length (received-of (r .log)) } = cc in
+        let b : progress-of o ≡ record { used = reads (r .log); made = length (r .log); got = length (received-of (r .log)) } = cc in
         let n = ap (λ (z : Final). number (z .ending)) e in
         let c = ap (λ (z : Final). z .calls) e in
-        let u = ap (λ (z : Bus). z .used) b in
-        let m = ap (λ (z : Bus). z .made) b in
-        let g = ap (λ (z : Bus). z .got) b in
+        let u = ap (λ (z : Progress). z .used) b in
+        let m = ap (λ (z : Progress). z .made) b in
+        let g = ap (λ (z : Progress). z .got) b in
         let lg-is : lg′ ≡ sets lg 0 (record-of (r .log)) = cc in
         let rx-is : rx′ ≡ sets rx 0 (received-of (r .log)) = cc in
         record {

@@ -10,7 +10,7 @@ use mathlib.Core.List.{List, [], _∷_, _++_}
 use lib.ListN.{length, set, drop, length-set, length-append}
 use lib.Seq.{drop-drop, sets, sets-eq}
 use Rattle.units.specs.declared.Setup.{Setup}
-use Rattle.registers.specs.declared.Bus.{Bus}
+use Rattle.registers.specs.declared.Progress.{Progress}
 use Rattle.registers.specs.declared.Entry.{Entry}
 use Rattle.registers.specs.Access.{Ending, cut, is-read, is-data, low-byte, store, record-of, reads, received-of}
 use Rattle.registers.specs.Machine.{Step, Access, access, next, perform, no-room, exec-full, exec-on, exec, Run, run, after-call, after-bring-up, whole-run, bring-up}
@@ -82,7 +82,7 @@ whole-run-is s cs st = go (exec s (room st) (bring-up s) (left st) .log) (exec s
     go l (Ending.cut-short a) = refl
 
 -- what a replayed log leaves in the buffers and the counts
-pub replay-is : (es : List Entry) (rs lg rx : List ℕ) (b : Bus)
+pub replay-is : (es : List Entry) (rs lg rx : List ℕ) (b : Progress)
     → replay es (at rs lg rx b)
     ≡ at rs (sets lg (2 * b .made) (record-of es)) (sets rx (b .got) (received-of es))
     (record { used = b .used + reads es; made = b .made + length es; got = b .got + length (received-of es) })

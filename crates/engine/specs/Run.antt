@@ -5,6 +5,7 @@ use mathlib.Core.List.{List, [], _∷_, _++_, map}
 use mathlib.Core.Bool.{Bool, true, false}
 use lib.ListN.{length, drop}
 use lib.Dec.{eqb}
+use denote.Ref.{now}
 use Rattle.units.specs.declared.Setup.{Setup}
 use Rattle.units.specs.Setup.{setup-of}
 use Rattle.buslist.specs.Table.{settings-of}
@@ -13,6 +14,7 @@ use Rattle.buslist.specs.Meaning.{calls-of}
 use Rattle.registers.specs.declared.Entry.{Entry}
 use Rattle.registers.specs.Access.{entries-in, record-of, reads, received-of, number}
 use Rattle.registers.specs.Machine.{Run, whole-run}
+use Rattle.registers.specs.Contract.{Slice}
 use Rattle.engine.specs.declared.Counts.{Counts}
 use Rattle.engine.specs.Calls.{steps-of}
 
@@ -62,15 +64,22 @@ pub record Meant (r : Result) (rx lg rx′ lg′ : List ℕ) (c : Counts) : Type
   pub recorded : lg′ ≡ filled lg (record-of (r .log))
 
 -- the run of this list on these readings: what the buffers held before and hold after, and what it counted
-abbrev pub Runs : (list readings rx lg rx′ lg′ : List ℕ) → Counts → Type 0
-Runs list readings rx lg rx′ lg′ c = Meant (run list readings (length rx) (length lg)) rx lg rx′ lg′ c
+abbrev pub RunsTo : (list readings rx lg rx′ lg′ : List ℕ) → Counts → Type 0
+RunsTo list readings rx lg rx′ lg′ c = Meant (run list readings (length rx) (length lg)) rx lg rx′ lg′ c
 
 -- the answer and the four counts in the order returned
 abbrev pub in-order : Counts → List ℕ
 in-order c = c .answer ∷ c .calls ∷ c .used ∷ c .made ∷ c .got ∷ []
 
 -- the same for hosts, with the answer and the counts in an array
-pub record HostRuns (list readings rx lg rx′ lg′ array : List ℕ) : Type 0 where
+pub record HostRunsTo (list readings rx lg rx′ lg′ array : List ℕ) : Type 0 where
   pub counts : Counts
-  pub runs : Runs list readings rx lg rx′ lg′ counts
+  pub runs : RunsTo list readings rx lg rx′ lg′ counts
   pub told : array ≡ in-order counts
+
+-- both of a function's parameters, as its contract has them: the slices at the call (`entry`) and at the return (`exit`)
+abbrev pub Runs : (list readings rx log : Slice) → Counts → Type 0
+Runs list readings rx log c = RunsTo (now (list .entry)) (now (readings .entry)) (now (rx .entry)) (now (log .entry)) (now (rx .exit)) (now (log .exit)) c
+
+abbrev pub HostRuns : (list readings rx log counts : Slice) → Type 0
+HostRuns list readings rx log counts = HostRunsTo (now (list .entry)) (now (readings .entry)) (now (rx .entry)) (now (log .entry)) (now (rx .exit)) (now (log .exit)) (now (counts .exit))

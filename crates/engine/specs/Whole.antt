@@ -1,18 +1,60 @@
--- A whole run from a state, call by call: what the run's loops keep.
-use Prim.Native.Nat.{ℕ, _+_}
+-- The forms of the contracts of the run's inner functions: one operation of a call, the end of a call, and a whole run from a state, call by call.
+use Prim.Native.Nat.{ℕ, zero, suc, _+_}
 use mathlib.Core.Path.{_≡_}
-use mathlib.Core.List.{List, [], _∷_}
+use mathlib.Core.Bool.{Bool, true, false}
+use mathlib.Core.List.{List, [], _∷_, map}
+use denote.Ref.{now}
 use Rattle.units.specs.declared.Setup.{Setup}
-use Rattle.registers.specs.declared.Bus.{Bus}
+use Rattle.buslist.specs.declared.CallEntry.{CallEntry}
+use Rattle.buslist.specs.Meaning.{Operation, write, read, calls-of}
+use Rattle.registers.specs.declared.Progress.{Progress}
 use Rattle.registers.specs.declared.Outcome.{Outcome}
 use Rattle.registers.specs.Access.{Ending, number}
 use Rattle.registers.specs.Machine.{Step}
 use Rattle.registers.specs.State.{State, After, at, resume}
-use Rattle.registers.specs.Contract.{ending-of}
+use Rattle.registers.specs.Contract.{ending-of, Slice}
+use Rattle.i2c.specs.declared.Previous.{Previous}
+use Rattle.i2c.specs.Polling.{direction, operation-steps as polling-operation}
+use Rattle.blocking.specs.Blocking.{done-last, close-after, operation-steps as blocking-operation}
 use Rattle.engine.specs.declared.Counts.{Counts}
+use Rattle.engine.specs.Calls.{Engine, polling, blocking, engine-of, early, steps-of}
+
+-- a polling call
+abbrev pub is-polling : Engine → Bool
+is-polling polling = true
+is-polling blocking = false
+
+-- an operation without bytes
+abbrev pub empty : Operation → Bool
+empty (write []) = true
+empty (write (b ∷ bs)) = false
+empty (read zero) = true
+empty (read (suc n)) = false
+
+-- one operation, with the operation before it and whether it is the last
+unfoldable pub operation-steps : Setup → Engine → Bool → ℕ → Previous → Bool → Operation → List Step
+operation-steps s polling early a previous last o = polling-operation early a previous last o
+operation-steps s blocking early a previous last o = blocking-operation s a o
+
+-- the same of the call at a table's entry, and where that is a polling one
+abbrev pub entry-steps : Setup → CallEntry → Previous → Bool → Operation → List Step
+entry-steps s c previous last o = operation-steps s (engine-of (c .kind)) (early (c .kind)) (c .address) previous last o
+
+abbrev pub polling-entry : CallEntry → Previous → Bool → Operation → List Step
+polling-entry c previous last o = polling-operation (early (c .kind)) (c .address) previous last o
+
+-- the operation before, for the one after o
+unfoldable pub moved : Engine → Previous → Operation → Previous
+moved polling previous o = direction o
+moved blocking previous o = done-last previous o
+
+-- the end of a call
+unfoldable pub end-steps : Setup → Engine → Previous → List Step
+end-steps s polling previous = []
+end-steps s blocking previous = close-after s previous
 
 -- nothing read, made or received as yet
-abbrev pub nothing-yet : Bus
+abbrev pub nothing-yet : Progress
 nothing-yet = record { used = 0; made = 0; got = 0 }
 
 -- how a run ends: its ending, the calls that ended well, and the state
@@ -34,11 +76,11 @@ unfoldable pub calls-run : Setup → List (List Step) → State → Final
 calls-run s [] st = record { ending = Ending.well; calls = 0; state = st }
 calls-run s (c ∷ cs) st = after-calls 1 (resume s c st) (calls-run s cs)
 
--- the bus that an outcome leaves
-abbrev pub bus-of : Outcome → Bus
-bus-of (Outcome.Well b) = b
-bus-of (Outcome.Failed e b) = b
-bus-of (Outcome.CutShort c b) = b
+-- how far the run had come at an outcome
+abbrev pub progress-of : Outcome → Progress
+progress-of (Outcome.Well b) = b
+progress-of (Outcome.Failed e b) = b
+progress-of (Outcome.CutShort c b) = b
 
 -- the answer and the counts that an outcome gives after so many calls
 abbrev pub ended-counts : Outcome → ℕ → Counts
@@ -46,18 +88,24 @@ ended-counts o calls =
     record {
       answer = number (ending-of o);
       calls = calls;
-      used = bus-of o .used;
-      made = bus-of o .made;
-      got = bus-of o .got;
+      used = progress-of o .used;
+      made = progress-of o .made;
+      got = progress-of o .got;
     }
 
 -- a run that ended with this outcome after k calls
 abbrev pub final : List ℕ → List ℕ → List ℕ → ℕ → Outcome → Final
-final rs lg rx k o = record { ending = ending-of o; calls = k; state = at rs lg rx (bus-of o) }
+final rs lg rx k o = record { ending = ending-of o; calls = k; state = at rs lg rx (progress-of o) }
 
 -- the calls cs from st end so
 pub record Ends (s : Setup) (cs : List (List Step)) (st : State) (rs lg rx : List ℕ) (k : ℕ) (o : Outcome) : Type 0 where
   pub is : calls-run s cs st ≡ final rs lg rx k o
+
+-- the calls of a list end so, from the state that a function's parameters are
+abbrev pub RunsCalls : Setup → (list readings log rx : Slice) → Progress → ℕ → Outcome → Type 0
+RunsCalls s list readings log rx b k o =
+    Ends s (map (steps-of s) (calls-of (now (list .entry)))) (at (now (readings .entry)) (now (log .entry)) (now (rx .entry)) b)
+    (now (readings .entry)) (now (log .exit)) (now (rx .exit)) k o
 
 -- after k calls, the calls cs′ are left from st′
 pub record Left (s : Setup) (cs : List (List Step)) (st : State) (k : ℕ) (cs′ : List (List Step)) (st′ : State) : Type 0 where

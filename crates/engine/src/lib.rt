@@ -2,23 +2,21 @@
 use buslist::CallEntry;
 use buslist::OperationEntry;
 use i2c::Previous;
-use registers::Bus;
 use registers::Outcome;
+use registers::Progress;
 use units::Hertz;
 use units::Setup;
 ghost use mathlib.Core.Path.{_≡_};
-ghost use mathlib.Core.List.{List, map};
+ghost use mathlib.Core.List.{List};
 ghost use Prim.Native.Nat.{ℕ, _<_, _≤_};
 ghost use lib.ListN.{length};
-ghost use lib.Dec.{leb};
 ghost use Rattle.buslist.specs.Refusal.{refusal};
-ghost use Rattle.buslist.specs.Meaning.{operation-of, calls-of};
-ghost use Rattle.registers.specs.State.{at};
-ghost use Rattle.registers.specs.Contract.{Refines};
-ghost use Rattle.i2c.specs.Polling.{direction, operation-steps as polling-operation};
+ghost use Rattle.buslist.specs.Meaning.{operation-of};
+ghost use Rattle.registers.specs.Contract.{DoesWith, Receives};
+ghost use Rattle.i2c.specs.Polling.{direction};
 ghost use Rattle.blocking.specs.Blocking.{operation-steps as blocking-operation};
-ghost use Rattle.engine.specs.Calls.{engine-of, early, steps-of, operation-steps, moved, end-steps, empty};
-ghost use Rattle.engine.specs.Whole.{Ends, bus-of, ended-counts};
+ghost use Rattle.engine.specs.Calls.{engine-of, early};
+ghost use Rattle.engine.specs.Whole.{is-polling, empty, entry-steps, polling-entry, moved, end-steps, RunsCalls, progress-of, ended-counts};
 ghost use Rattle.engine.specs.Run.{Runs, HostRuns};
 ghost use Rattle.engine.specs.Speed.{speed-out, speed-cr2, speed-trise, speed-ccr};
 
@@ -82,7 +80,7 @@ pub extern "C" fn speed_ccr(pclk1: u32, mode: u32, frequency: u32) -> u32
 
 // Whether a call is polling: kinds 0 to 3.
 fn is_polling(kind: u8) -> bool
-    ensures { λ r. ⌜ r ≡ leb kind 3 ⌝ }
+    ensures { λ r. ⌜ r ≡ is-polling (engine-of kind) ⌝ }
 {
     kind <= 3
 }
@@ -100,21 +98,21 @@ fn polling_operation(
     readings: &[u32],
     rx: &mut [u8],
     log: &mut [u32],
-    bus: Bus,
+    progress: Progress,
     call: CallEntry,
     o: OperationEntry,
     previous: Previous,
     last: bool,
 ) -> Outcome
-    requires { ⌜ (call .address < 128) × (bus .got ≤ bus .used) ⌝ }
-    ensures { λ r. ⌜ ((s : Setup) → Refines s (polling-operation (early (call .kind)) (call .address) previous last (operation-of (now (list .entry)) o)) (at (now (readings .entry)) (now (log .entry)) (now (rx .entry)) bus) (now (readings .entry)) (now (log .exit)) (now (rx .exit)) r) ⌝ }
+    requires { ⌜ (call .address < 128) × (progress .got ≤ progress .used) ⌝ }
+    ensures { λ r. ⌜ ((s : Setup) → Receives s (polling-entry call previous last (operation-of (now (list .entry)) o)) readings log rx progress r) ⌝ }
 {
     let addr = call.address as u32;
     if o.direction == 0 {
         return i2c::write_operation(
             readings,
             log,
-            bus,
+            progress,
             addr,
             previous,
             last,
@@ -125,7 +123,7 @@ fn polling_operation(
         readings,
         log,
         rx,
-        bus,
+        progress,
         addr,
         previous,
         last,
@@ -140,26 +138,26 @@ fn blocking_operation(
     readings: &[u32],
     rx: &mut [u8],
     log: &mut [u32],
-    bus: Bus,
+    progress: Progress,
     setup: Setup,
     call: CallEntry,
     o: OperationEntry,
 ) -> Outcome
-    requires { ⌜ (call .address < 128) × (bus .got ≤ bus .used) ⌝ }
-    ensures { λ r. ⌜ Refines setup (blocking-operation setup (call .address) (operation-of (now (list .entry)) o)) (at (now (readings .entry)) (now (log .entry)) (now (rx .entry)) bus) (now (readings .entry)) (now (log .exit)) (now (rx .exit)) r ⌝ }
+    requires { ⌜ (call .address < 128) × (progress .got ≤ progress .used) ⌝ }
+    ensures { λ r. ⌜ Receives setup (blocking-operation setup (call .address) (operation-of (now (list .entry)) o)) readings log rx progress r ⌝ }
 {
     let addr = call.address as u32;
     if o.direction == 0 {
         return blocking::write_without_stop(
             readings,
             log,
-            bus,
+            progress,
             setup,
             addr,
             buslist::bytes_of(list, o),
         );
     }
-    blocking::read(readings, log, rx, bus, setup, addr, o.length as usize)
+    blocking::read(readings, log, rx, progress, setup, addr, o.length as usize)
 }
 
 // One operation of a call.
@@ -168,20 +166,20 @@ fn operation(
     readings: &[u32],
     rx: &mut [u8],
     log: &mut [u32],
-    bus: Bus,
+    progress: Progress,
     setup: Setup,
     call: CallEntry,
     o: OperationEntry,
     previous: Previous,
     last: bool,
 ) -> Outcome
-    requires { ⌜ (call .address < 128) × (bus .got ≤ bus .used) ⌝ }
-    ensures { λ r. ⌜ Refines setup (operation-steps setup (engine-of (call .kind)) (early (call .kind)) (call .address) previous last (operation-of (now (list .entry)) o)) (at (now (readings .entry)) (now (log .entry)) (now (rx .entry)) bus) (now (readings .entry)) (now (log .exit)) (now (rx .exit)) r ⌝ }
+    requires { ⌜ (call .address < 128) × (progress .got ≤ progress .used) ⌝ }
+    ensures { λ r. ⌜ Receives setup (entry-steps setup call previous last (operation-of (now (list .entry)) o)) readings log rx progress r ⌝ }
 {
     if is_polling(call.kind) {
-        return polling_operation(list, readings, rx, log, bus, call, o, previous, last);
+        return polling_operation(list, readings, rx, log, progress, call, o, previous, last);
     }
-    blocking_operation(list, readings, rx, log, bus, setup, call, o)
+    blocking_operation(list, readings, rx, log, progress, setup, call, o)
 }
 
 // Whether an operation has no bytes.
@@ -221,17 +219,17 @@ fn moved(list: &[u8], call: CallEntry, o: OperationEntry, previous: Previous) ->
 fn end_call(
     readings: &[u32],
     log: &mut [u32],
-    bus: Bus,
+    progress: Progress,
     setup: Setup,
     call: CallEntry,
     previous: Previous,
 ) -> Outcome
-    ensures { λ r. ⌜ ((rx : List ℕ) → Refines setup (end-steps setup (engine-of (call .kind)) previous) (at (now (readings .entry)) (now (log .entry)) rx bus) (now (readings .entry)) (now (log .exit)) rx r) ⌝ }
+    ensures { λ r. ⌜ DoesWith setup (end-steps setup (engine-of (call .kind)) previous) readings log progress r ⌝ }
 {
     if is_polling(call.kind) {
-        return Outcome::Well(bus);
+        return Outcome::Well(progress);
     }
-    blocking::close_after(readings, log, bus, setup, previous)
+    blocking::close_after(readings, log, progress, setup, previous)
 }
 
 // The calls in order, until one does not end well.
@@ -240,17 +238,17 @@ fn run_calls(
     readings: &[u32],
     rx: &mut [u8],
     log: &mut [u32],
-    bus: Bus,
+    progress: Progress,
     setup: Setup,
 ) -> Stopped
-    requires { ⌜ (refusal (now list) (length (now rx)) ≡ 0) × (bus .got ≤ bus .used) ⌝ }
-    ensures { λ r. ⌜ Ends setup (map (steps-of setup) (calls-of (now (list .entry)))) (at (now (readings .entry)) (now (log .entry)) (now (rx .entry)) bus) (now (readings .entry)) (now (log .exit)) (now (rx .exit)) (r .calls) (r .outcome) ⌝ }
+    requires { ⌜ (refusal (now list) (length (now rx)) ≡ 0) × (progress .got ≤ progress .used) ⌝ }
+    ensures { λ r. ⌜ RunsCalls setup list readings log rx progress (r .calls) (r .outcome) ⌝ }
 {
     let calls = buslist::call_count(list);
     let call_start = buslist::call_offset(list);
     let operation_start = buslist::operation_offset(list);
-    let mut bus = bus;
-    let mut outcome = Outcome::Well(bus);
+    let mut progress = progress;
+    let mut outcome = Outcome::Well(progress);
     let mut k = 0;
     'calls: while k < calls {
         let call = buslist::call_at(list, call_start, k);
@@ -264,7 +262,7 @@ fn run_calls(
                 readings,
                 rx,
                 log,
-                bus,
+                progress,
                 setup,
                 call,
                 o,
@@ -274,28 +272,28 @@ fn run_calls(
             let Outcome::Well(next) = outcome else {
                 break 'calls;
             };
-            bus = next;
+            progress = next;
             previous = moved(list, call, o, previous);
             j += 1;
         }
-        outcome = end_call(readings, log, bus, setup, call, previous);
+        outcome = end_call(readings, log, progress, setup, call, previous);
         let Outcome::Well(next) = outcome else {
             break 'calls;
         };
-        bus = next;
+        progress = next;
         k += 1;
     }
     Stopped { outcome, calls: k }
 }
 
-// The bus that an outcome leaves.
-fn bus_of(outcome: Outcome) -> Bus
-    ensures { λ r. ⌜ r ≡ bus-of outcome ⌝ }
+// How far the run had come at an outcome.
+fn progress_of(outcome: Outcome) -> Progress
+    ensures { λ r. ⌜ r ≡ progress-of outcome ⌝ }
 {
     match outcome {
-        Outcome::Well(bus) => bus,
-        Outcome::Failed(_, bus) => bus,
-        Outcome::CutShort(_, bus) => bus,
+        Outcome::Well(progress) => progress,
+        Outcome::Failed(_, progress) => progress,
+        Outcome::CutShort(_, progress) => progress,
     }
 }
 
@@ -303,39 +301,39 @@ fn bus_of(outcome: Outcome) -> Bus
 fn counts_of(outcome: Outcome, calls: usize) -> Counts
     ensures { λ r. ⌜ r ≡ ended-counts outcome calls ⌝ }
 {
-    let bus = bus_of(outcome);
+    let progress = progress_of(outcome);
     Counts {
         answer: registers::number(outcome),
         calls,
-        used: bus.used,
-        made: bus.made,
-        got: bus.got,
+        used: progress.used,
+        made: progress.made,
+        got: progress.got,
     }
 }
 
 // The run of an accepted list: the bring-up, then the calls.
 fn run_accepted(list: &[u8], readings: &[u32], rx: &mut [u8], log: &mut [u32]) -> Counts
     requires { ⌜ refusal (now list) (length (now rx)) ≡ 0 ⌝ }
-    ensures { λ r. ⌜ Runs (now (list .entry)) (now (readings .entry)) (now (rx .entry)) (now (log .entry)) (now (rx .exit)) (now (log .exit)) r ⌝ }
+    ensures { λ r. ⌜ Runs list readings rx log r ⌝ }
 {
     let setup = units::setup_of(buslist::read_settings(list));
-    let start = Bus {
+    let start = Progress {
         used: 0,
         made: 0,
         got: 0,
     };
     let outcome = i2c::init(readings, log, start, setup);
-    let Outcome::Well(bus) = outcome else {
+    let Outcome::Well(progress) = outcome else {
         return counts_of(outcome, 0);
     };
-    let stopped = run_calls(list, readings, rx, log, bus, setup);
+    let stopped = run_calls(list, readings, rx, log, progress, setup);
     let ended = stopped.outcome;
     counts_of(ended, stopped.calls as usize)
 }
 
 // The run of a bus list on these readings: the accesses go to the record `log`, the received bytes to `rx`.
 pub fn run(list: &[u8], readings: &[u32], rx: &mut [u8], log: &mut [u32]) -> Counts
-    ensures { λ r. ⌜ Runs (now (list .entry)) (now (readings .entry)) (now (rx .entry)) (now (log .entry)) (now (rx .exit)) (now (log .exit)) r ⌝ }
+    ensures { λ r. ⌜ Runs list readings rx log r ⌝ }
 {
     let refused = buslist::refusal(list, rx.len());
     if refused != 0 {
@@ -359,7 +357,7 @@ pub extern "C" fn bus_run(
     log: &mut [u32],
     counts: &mut [u64; 5],
 )
-    ensures { λ _. ⌜ HostRuns (now (list .entry)) (now (readings .entry)) (now (rx .entry)) (now (log .entry)) (now (rx .exit)) (now (log .exit)) (now (counts .exit)) ⌝ }
+    ensures { λ _. ⌜ HostRuns list readings rx log counts ⌝ }
 {
     let c = run(list, readings, rx, log);
     let all = [
@@ -374,14 +372,14 @@ pub extern "C" fn bus_run(
 
 // The run, with the answer and the counts in the caller's struct, whatever it held.
 pub fn run_into(list: &[u8], readings: &[u32], rx: &mut [u8], log: &mut [u32], counts: &mut Counts)
-    ensures { λ _. ⌜ Runs (now (list .entry)) (now (readings .entry)) (now (rx .entry)) (now (log .entry)) (now (rx .exit)) (now (log .exit)) (now (counts .exit)) ⌝ }
+    ensures { λ _. ⌜ Runs list readings rx log (now (counts .exit)) ⌝ }
 {
     *counts = run(list, readings, rx, log);
 }
 
 // The run, by a struct that is lent to be changed in place.
 pub fn run_counted(list: &[u8], readings: &[u32], rx: &mut [u8], log: &mut [u32]) -> Counts
-    ensures { λ c. ⌜ Runs (now (list .entry)) (now (readings .entry)) (now (rx .entry)) (now (log .entry)) (now (rx .exit)) (now (log .exit)) c ⌝ }
+    ensures { λ c. ⌜ Runs list readings rx log c ⌝ }
 {
     let mut counts = Counts {
         answer: 0,

@@ -6,7 +6,7 @@ use mathlib.Core.Bool.{Bool, true, false, cond}
 use mathlib.Core.Path.{_≡_, refl, sym, ap, _∙_}
 use mathlib.Core.List.{List, [], _∷_, _++_, append-assoc}
 use Rattle.units.specs.declared.Setup.{Setup}
-use Rattle.registers.specs.declared.Bus.{Bus}
+use Rattle.registers.specs.declared.Progress.{Progress}
 use Rattle.registers.specs.declared.BusError.{BusError}
 use Rattle.registers.specs.declared.Source.{Source}
 use Rattle.registers.specs.declared.Checked.{Checked}
@@ -16,13 +16,13 @@ use Rattle.registers.specs.Word.{has, BERR}
 use Rattle.registers.specs.Access.{SR1, wSR1, clear-word}
 use Rattle.registers.specs.Machine.{Step, Access, access, next, check-word, after-check}
 use Rattle.registers.specs.State.{State, After, Took, at, then, taking, entry, recorded, received, room, resume, read, write-one, write, check, check-flags, took-then, took-word}
-use Rattle.registers.specs.Contract.{outcome, checked, outcome-of, failed-of, word-of, Reads, Writes, Checks, Refines, Reaches}
+use Rattle.registers.specs.Contract.{outcome, checked, outcome-of, failed-of, word-of, ReadsFrom, WritesFrom, ChecksFrom, Refines, Reaches}
 use Rattle.registers.proofs.Laws.{read-law, write-law, fail-law, received-other}
 use Rattle.registers.proofs.Steps.{NoWord, not-first, no-word, Fell, made-of, read-fell}
 
 -- the answer of a check, from its read and its clear
-module _ {st : State} {rs lg rx : List ℕ} {r : Checked} (x : Reads SR1 st rs lg rx r) {n : Source} where
-  pub check-none : NoWord r → Checks n st rs lg rx r
+module _ {st : State} {rs lg rx : List ℕ} {r : Checked} (x : ReadsFrom SR1 st rs lg rx r) {n : Source} where
+  pub check-none : NoWord r → ChecksFrom n st rs lg rx r
   unfolding check
   check-none h = record { is = rw (← x .is) (go r h _) }
     where
@@ -31,13 +31,13 @@ module _ {st : State} {rs lg rx : List ℕ} {r : Checked} (x : Reads SR1 st rs l
       go (Checked.Failed e b) h k = refl
       go (Checked.CutShort c b) h k = refl
 
-  module _ {v : ℕ} {b : Bus} (e : r ≡ Checked.Word v b) {f : Flagged} (d : f ≡ check-word n v) where
-    pub check-fine : f ≡ Flagged.Nothing → has BERR v ≡ false → Checks n st rs lg rx (Checked.Word v b)
+  module _ {v : ℕ} {b : Progress} (e : r ≡ Checked.Word v b) {f : Flagged} (d : f ≡ check-word n v) where
+    pub check-fine : f ≡ Flagged.Nothing → has BERR v ≡ false → ChecksFrom n st rs lg rx (Checked.Word v b)
     unfolding check
     check-fine h t = record { is = rw (← x .is, e, ← d, h, t) }
 
-    pub check-error : {a : BusError} → f ≡ Flagged.Error a → {lg′ : List ℕ} {o : Outcome} → Writes wSR1 (clear-word a) (at rs lg rx b) rs lg′ rx o
-        → Checks n st rs lg′ rx (failed-of o a)
+    pub check-error : {a : BusError} → f ≡ Flagged.Error a → {lg′ : List ℕ} {o : Outcome} → WritesFrom wSR1 (clear-word a) (at rs lg rx b) rs lg′ rx o
+        → ChecksFrom n st rs lg′ rx (failed-of o a)
     unfolding check
     check-error {a} h {lg′} {o} y = record { is = rw (← x .is, e, ← d, h, ← y .is) (go o) }
       where
@@ -46,8 +46,8 @@ module _ {st : State} {rs lg rx : List ℕ} {r : Checked} (x : Reads SR1 st rs l
         go (Outcome.Failed e b) = refl
         go (Outcome.CutShort c b) = refl
 
-    pub check-spurious : f ≡ Flagged.Nothing → has BERR v ≡ true → {lg′ : List ℕ} {o : Outcome} → Writes wSR1 (clear-word BusError.Bus) (at rs lg rx b) rs lg′ rx o
-        → Checks n st rs lg′ rx (word-of o v)
+    pub check-spurious : f ≡ Flagged.Nothing → has BERR v ≡ true → {lg′ : List ℕ} {o : Outcome} → WritesFrom wSR1 (clear-word BusError.Bus) (at rs lg rx b) rs lg′ rx o
+        → ChecksFrom n st rs lg′ rx (word-of o v)
     unfolding check
     check-spurious h t {lg′} {o} y = record { is = rw (← x .is, e, ← d, h, t, ← y .is) (go o) }
       where
@@ -106,17 +106,17 @@ check-law {s} {i} {n} {m} d p st = read-law s i SR1 p st (d .reads) refl ∙ go 
 
 -- a check for the step i
 module _ {s : Setup} {q : List Step} {st : State} {i : Step} {q₁ : List Step} {st₁ : State} (g : Reaches s q st (i ∷ q₁) st₁)
-    {n : Source} {rs lg rx : List ℕ} {r : Checked} (x : Checks n st₁ rs lg rx r)
+    {n : Source} {rs lg rx : List ℕ} {r : Checked} (x : ChecksFrom n st₁ rs lg rx r)
     {m : ℕ → List Step} (d : Checking s i n m) where
-  pub check-step : {v : ℕ} {b : Bus} → r ≡ Checked.Word v b → {m′ : List Step} → m v ≡ m′ → Reaches s q st (m′ ++ q₁) (at rs lg rx b)
+  pub check-step : {v : ℕ} {b : Progress} → r ≡ Checked.Word v b → {m′ : List Step} → m v ≡ m′ → Reaches s q st (m′ ++ q₁) (at rs lg rx b)
   check-step e {m′} h = record { is = λ p. g .is p ∙ check-law d (q₁ ++ p) st₁ ∙ rw (← x .is, e, h, append-assoc m′ q₁ p) }
 
   pub check-stops : NoWord r → Refines s q st rs lg rx (outcome-of r)
   check-stops h = record { is = λ p. g .is p ∙ check-law d (q₁ ++ p) st₁ ∙ rw (← x .is) (no-word r h rs lg rx _ (resume s p)) }
 
 -- a check that answers a word has made an access, so fewer fit
-pub check-fell : {n : Source} {rs lg rx : List ℕ} {b : Bus} {rs′ lg′ rx′ : List ℕ} {r : Checked} {v : ℕ} {b′ : Bus}
-    → Checks n (at rs lg rx b) rs′ lg′ rx′ r → r ≡ Checked.Word v b′ → Fell lg b b′
+pub check-fell : {n : Source} {rs lg rx : List ℕ} {b : Progress} {rs′ lg′ rx′ : List ℕ} {r : Checked} {v : ℕ} {b′ : Progress}
+    → ChecksFrom n (at rs lg rx b) rs′ lg′ rx′ r → r ≡ Checked.Word v b′ → Fell lg b b′
 unfolding check write write-one recorded
 check-fell {n} {rs} {lg} {rx} {b} {rs′} {lg′} {rx′} {r} {v} {b′} x e =
     go (read SR1 (at rs lg rx b)) refl (ap (checked rs′ lg′ rx′) (sym e) ∙ x .is)
@@ -139,7 +139,7 @@ check-fell {n} {rs} {lg} {rx} {b} {rs′} {lg′} {rx′} {r} {v} {b′} x e =
 
     go : (t : Took) → read SR1 (at rs lg rx b) ≡ t → answer ≡ took-word t (λ w st′. check-flags (check-word n w) (has BERR w) w st′) → Fell lg b b′
     go (Took.word w (at rs₁ lg₁ rx₁ b₁)) k h =
-        let y : Reads SR1 (at rs lg rx b) rs₁ lg₁ rx₁ (Checked.Word w b₁) = record { is = sym k } in
+        let y : ReadsFrom SR1 (at rs lg rx b) rs₁ lg₁ rx₁ (Checked.Word w b₁) = record { is = sym k } in
         let f = read-fell y refl in
         let l = flags (check-word n w) (has BERR w) w (at rs₁ lg₁ rx₁ b₁) h in
         record { fits = f .fits; more = omega arith }

@@ -6,14 +6,14 @@ use mathlib.Core.Path.{_≡_}
 use mathlib.Core.List.{List, [], _∷_}
 use lib.ListN.{length}
 use Rattle.units.specs.declared.Setup.{Setup}
-use Rattle.registers.specs.declared.Bus.{Bus}
+use Rattle.registers.specs.declared.Progress.{Progress}
 use Rattle.registers.specs.Word.{has, STOP, MSL, BUSY}
 use Rattle.registers.specs.Machine.{Step, next}
 use Rattle.registers.specs.State.{at}
 use Rattle.registers.specs.Contract.{Reaches}
 
 -- the loop comes back to its step i, with the record as long as at first
-abbrev pub Waiting : Step → List ℕ → List ℕ → Bus → List ℕ → Bus → Type 0
+abbrev pub Waiting : Step → List ℕ → List ℕ → Progress → List ℕ → Progress → Type 0
 Waiting i rs lg₀ b₀ lg b = ((s : Setup) (rx : List ℕ) → Reaches s (i ∷ []) (at rs lg₀ rx b₀) (i ∷ []) (at rs lg rx b)) × (length lg ≡ length lg₀)
 
 -- a wait is over, or goes on, by the bits of the word read

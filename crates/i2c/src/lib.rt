@@ -1,10 +1,10 @@
 // The I2C master, named and ordered as the Rust's src/i2c.rs: what both engines share, then the polling engine.
 use registers::Bits;
-use registers::Bus;
 use registers::BusError;
 use registers::Checked;
 use registers::Flagged;
 use registers::Outcome;
+use registers::Progress;
 use registers::Source;
 use registers::clear_flag;
 use registers::failed_of;
@@ -19,14 +19,13 @@ use registers::write;
 use units::Setup;
 ghost use mathlib.Core.Path.{_≡_};
 ghost use mathlib.Core.Bool.{Bool};
-ghost use mathlib.Core.List.{List, [], _∷_};
-ghost use Prim.Native.Nat.{ℕ, _<_, _≤_};
+ghost use mathlib.Core.List.{[], _∷_};
+ghost use Prim.Native.Nat.{_<_, _≤_};
 ghost use Rattle.buslist.specs.Meaning.{Operation};
 ghost use Rattle.registers.specs.Word.{none, one, START, STOP};
 ghost use Rattle.registers.specs.Machine.{Step, bring-up, reset, send-start, check-word};
 ghost use Rattle.registers.specs.Access.{wDR};
-ghost use Rattle.registers.specs.State.{at};
-ghost use Rattle.registers.specs.Contract.{Writes, Checks, Refines};
+ghost use Rattle.registers.specs.Contract.{Writes, Checks, DoesWith, Does, Receives};
 ghost use Rattle.i2c.specs.Polling.{address-byte, request-write, address-write, prepare-write, request-read, address-read, prepare-read, send-byte, recv-byte, write-bytes, read-bytes, last-write, last-read, turn-write, turn-read, operation-steps};
 
 // The operation before, in a call.
@@ -37,45 +36,45 @@ pub enum Previous {
 }
 
 // The speed words, then PE.
-pub fn init(readings: &[u32], log: &mut [u32], bus: Bus, setup: Setup) -> Outcome
-    ensures { λ r. ⌜ ((rx : List ℕ) → Refines setup (bring-up setup) (at (now (readings .entry)) (now (log .entry)) rx bus) (now (readings .entry)) (now (log .exit)) rx r) ⌝ }
+pub fn init(readings: &[u32], log: &mut [u32], progress: Progress, setup: Setup) -> Outcome
+    ensures { λ r. ⌜ DoesWith setup (bring-up setup) readings log progress r ⌝ }
 {
-    let a = write(log, bus, registers::W_CR2, setup.cr2);
-    let Outcome::Well(bus1) = a else {
+    let a = write(log, progress, registers::W_CR2, setup.cr2);
+    let Outcome::Well(progress1) = a else {
         return a;
     };
-    let b = write(log, bus1, registers::W_TRISE, setup.trise);
-    let Outcome::Well(bus2) = b else {
+    let b = write(log, progress1, registers::W_TRISE, setup.trise);
+    let Outcome::Well(progress2) = b else {
         return b;
     };
-    let c = write(log, bus2, registers::W_CCR, setup.ccr);
-    let Outcome::Well(bus3) = c else {
+    let c = write(log, progress2, registers::W_CCR, setup.ccr);
+    let Outcome::Well(progress3) = c else {
         return c;
     };
-    modify_cr1(readings, log, bus3, Bits(registers::PE, 0), Bits(0, 0))
+    modify_cr1(readings, log, progress3, Bits(registers::PE, 0), Bits(0, 0))
 }
 
 // Software reset (SWRST and PE, then 0), then bring-up.
-pub fn reset(readings: &[u32], log: &mut [u32], bus: Bus, setup: Setup) -> Outcome
-    ensures { λ r. ⌜ ((rx : List ℕ) → Refines setup (reset setup) (at (now (readings .entry)) (now (log .entry)) rx bus) (now (readings .entry)) (now (log .exit)) rx r) ⌝ }
+pub fn reset(readings: &[u32], log: &mut [u32], progress: Progress, setup: Setup) -> Outcome
+    ensures { λ r. ⌜ DoesWith setup (reset setup) readings log progress r ⌝ }
 {
-    let a = write(log, bus, registers::W_CR1, 0x8001);
-    let Outcome::Well(bus1) = a else {
+    let a = write(log, progress, registers::W_CR1, 0x8001);
+    let Outcome::Well(progress1) = a else {
         return a;
     };
-    let b = write(log, bus1, registers::W_CR1, 0);
-    let Outcome::Well(bus2) = b else {
+    let b = write(log, progress1, registers::W_CR1, 0);
+    let Outcome::Well(progress2) = b else {
         return b;
     };
-    init(readings, log, bus2, setup)
+    init(readings, log, progress2, setup)
 }
 
 // Clear all pending error bits, then set these bits of CR1, START among them.
-fn request_start(readings: &[u32], log: &mut [u32], bus: Bus, on: Bits) -> Outcome
+fn request_start(readings: &[u32], log: &mut [u32], progress: Progress, on: Bits) -> Outcome
     requires { ⌜ (on .0 < 65536) × (on .1 < 65536) ⌝ }
-    ensures { λ r. ⌜ ((s : Setup) (rx : List ℕ) → Refines s (send-start on) (at (now (readings .entry)) (now (log .entry)) rx bus) (now (readings .entry)) (now (log .exit)) rx r) ⌝ }
+    ensures { λ r. ⌜ Does (send-start on) readings log progress r ⌝ }
 {
-    let a = write(log, bus, registers::W_SR1, 0);
+    let a = write(log, progress, registers::W_SR1, 0);
     let Outcome::Well(next) = a else {
         return a;
     };
@@ -83,28 +82,34 @@ fn request_start(readings: &[u32], log: &mut [u32], bus: Bus, on: Bits) -> Outco
 }
 
 // Generate START condition.
-pub fn send_start(readings: &[u32], log: &mut [u32], bus: Bus) -> Outcome
-    ensures { λ r. ⌜ ((s : Setup) (rx : List ℕ) → Refines s (send-start (one START)) (at (now (readings .entry)) (now (log .entry)) rx bus) (now (readings .entry)) (now (log .exit)) rx r) ⌝ }
+pub fn send_start(readings: &[u32], log: &mut [u32], progress: Progress) -> Outcome
+    ensures { λ r. ⌜ Does (send-start (one START)) readings log progress r ⌝ }
 {
-    request_start(readings, log, bus, Bits(registers::START, 0))
+    request_start(readings, log, progress, Bits(registers::START, 0))
 }
 
 // Sends the (7-bit) address. The 8th bit is set for a read.
-pub fn send_addr(log: &mut [u32], bus: Bus, addr: u32, read: bool) -> Outcome
+pub fn send_addr(log: &mut [u32], progress: Progress, addr: u32, read: bool) -> Outcome
     requires { ⌜ addr < 128 ⌝ }
-    ensures { λ r. ⌜ ((rs rx : List ℕ) → Writes wDR (address-byte addr read) (at rs (now (log .entry)) rx bus) rs (now (log .exit)) rx r) ⌝ }
+    ensures { λ r. ⌜ Writes wDR (address-byte addr read) log progress r ⌝ }
 {
     if read {
-        return write(log, bus, registers::W_DR, 2 * addr + 1);
+        return write(log, progress, registers::W_DR, 2 * addr + 1);
     }
-    write(log, bus, registers::W_DR, 2 * addr)
+    write(log, progress, registers::W_DR, 2 * addr)
 }
 
 // Generate STOP condition.
-pub fn send_stop(readings: &[u32], log: &mut [u32], bus: Bus) -> Outcome
-    ensures { λ r. ⌜ ((s : Setup) (rx : List ℕ) → Refines s (Step.modify (one STOP) none ∷ []) (at (now (readings .entry)) (now (log .entry)) rx bus) (now (readings .entry)) (now (log .exit)) rx r) ⌝ }
+pub fn send_stop(readings: &[u32], log: &mut [u32], progress: Progress) -> Outcome
+    ensures { λ r. ⌜ Does (Step.modify (one STOP) none ∷ []) readings log progress r ⌝ }
 {
-    modify_cr1(readings, log, bus, Bits(registers::STOP, 0), Bits(0, 0))
+    modify_cr1(
+        readings,
+        log,
+        progress,
+        Bits(registers::STOP, 0),
+        Bits(0, 0),
+    )
 }
 
 // The first error flag of an SR1 word, BERR apart.
@@ -133,12 +138,12 @@ fn first_error(word: u32, source: Source) -> Flagged
 fn check_and_clear_error_flags(
     readings: &[u32],
     log: &mut [u32],
-    bus: Bus,
+    progress: Progress,
     source: Source,
 ) -> Checked
-    ensures { λ r. ⌜ ((rx : List ℕ) → Checks source (at (now (readings .entry)) (now (log .entry)) rx bus) (now (readings .entry)) (now (log .exit)) rx r) ⌝ }
+    ensures { λ r. ⌜ Checks source readings log progress r ⌝ }
 {
-    let c = read(readings, log, bus, registers::SR1);
+    let c = read(readings, log, progress, registers::SR1);
     let Checked::Word(sr1, next) = c else {
         return c;
     };
@@ -153,47 +158,53 @@ fn check_and_clear_error_flags(
 }
 
 // Read CR1 until STOP is clear.
-fn until_stop_clear(readings: &[u32], log: &mut [u32], bus: Bus) -> Outcome
-    ensures { λ r. ⌜ ((s : Setup) (rx : List ℕ) → Refines s (Step.stop-clear ∷ []) (at (now (readings .entry)) (now (log .entry)) rx bus) (now (readings .entry)) (now (log .exit)) rx r) ⌝ }
+fn until_stop_clear(readings: &[u32], log: &mut [u32], progress: Progress) -> Outcome
+    ensures { λ r. ⌜ Does (Step.stop-clear ∷ []) readings log progress r ⌝ }
 {
-    let mut bus = bus;
+    let mut progress = progress;
     loop {
-        let c = read(readings, log, bus, registers::CR1);
+        let c = read(readings, log, progress, registers::CR1);
         let Checked::Word(cr1, next) = c else {
             return outcome_of(c);
         };
-        bus = next;
+        progress = next;
         if !has(cr1, registers::STOP) {
-            return Outcome::Well(bus);
+            return Outcome::Well(progress);
         }
     }
 }
 
 // Check until this SR1 flag is set.
-fn check_until(readings: &[u32], log: &mut [u32], bus: Bus, flag: u32, source: Source) -> Outcome
+fn check_until(
+    readings: &[u32],
+    log: &mut [u32],
+    progress: Progress,
+    flag: u32,
+    source: Source,
+) -> Outcome
     requires { ⌜ 0 < flag ⌝ }
-    ensures { λ r. ⌜ ((s : Setup) (rx : List ℕ) → Refines s (Step.check flag source ∷ []) (at (now (readings .entry)) (now (log .entry)) rx bus) (now (readings .entry)) (now (log .exit)) rx r) ⌝ }
+    ensures { λ r. ⌜ Does (Step.check flag source ∷ []) readings log progress r ⌝ }
 {
-    let mut bus = bus;
+    let mut progress = progress;
     loop {
-        let c = check_and_clear_error_flags(readings, log, bus, source);
+        let c = check_and_clear_error_flags(readings, log, progress, source);
         let Checked::Word(sr1, next) = c else {
             return outcome_of(c);
         };
-        bus = next;
+        progress = next;
         if has(sr1, flag) {
-            return Outcome::Well(bus);
+            return Outcome::Well(progress);
         }
     }
 }
 
 // Check and read SR2 until MSL or BUSY.
-fn check_master(readings: &[u32], log: &mut [u32], bus: Bus) -> Outcome
-    ensures { λ r. ⌜ ((s : Setup) (rx : List ℕ) → Refines s (Step.check-master ∷ []) (at (now (readings .entry)) (now (log .entry)) rx bus) (now (readings .entry)) (now (log .exit)) rx r) ⌝ }
+fn check_master(readings: &[u32], log: &mut [u32], progress: Progress) -> Outcome
+    ensures { λ r. ⌜ Does (Step.check-master ∷ []) readings log progress r ⌝ }
 {
-    let mut bus = bus;
+    let mut progress = progress;
     loop {
-        let c = check_and_clear_error_flags(readings, log, bus, Source::Unknown);
+        let c = check_and_clear_error_flags(readings, log, progress, Source::Unknown);
         let Checked::Word(_, next) = c else {
             return outcome_of(c);
         };
@@ -201,24 +212,30 @@ fn check_master(readings: &[u32], log: &mut [u32], bus: Bus) -> Outcome
         let Checked::Word(sr2, last) = d else {
             return outcome_of(d);
         };
-        bus = last;
+        progress = last;
         if has(sr2, registers::MSL) {
-            return Outcome::Well(bus);
+            return Outcome::Well(progress);
         }
         if has(sr2, registers::BUSY) {
-            return Outcome::Well(bus);
+            return Outcome::Well(progress);
         }
     }
 }
 
 // Check, and read SR1 again, until the second read has this flag.
-fn check_twice(readings: &[u32], log: &mut [u32], bus: Bus, flag: u32, source: Source) -> Outcome
+fn check_twice(
+    readings: &[u32],
+    log: &mut [u32],
+    progress: Progress,
+    flag: u32,
+    source: Source,
+) -> Outcome
     requires { ⌜ 0 < flag ⌝ }
-    ensures { λ r. ⌜ ((s : Setup) (rx : List ℕ) → Refines s (Step.check-twice flag source ∷ []) (at (now (readings .entry)) (now (log .entry)) rx bus) (now (readings .entry)) (now (log .exit)) rx r) ⌝ }
+    ensures { λ r. ⌜ Does (Step.check-twice flag source ∷ []) readings log progress r ⌝ }
 {
-    let mut bus = bus;
+    let mut progress = progress;
     loop {
-        let c = check_and_clear_error_flags(readings, log, bus, source);
+        let c = check_and_clear_error_flags(readings, log, progress, source);
         let Checked::Word(_, next) = c else {
             return outcome_of(c);
         };
@@ -226,92 +243,92 @@ fn check_twice(readings: &[u32], log: &mut [u32], bus: Bus, flag: u32, source: S
         let Checked::Word(sr1, last) = d else {
             return outcome_of(d);
         };
-        bus = last;
+        progress = last;
         if has(sr1, flag) {
-            return Outcome::Well(bus);
+            return Outcome::Well(progress);
         }
     }
 }
 
 // Plain SR1 reads until this flag is set.
-fn until_flag(readings: &[u32], log: &mut [u32], bus: Bus, flag: u32) -> Outcome
+fn until_flag(readings: &[u32], log: &mut [u32], progress: Progress, flag: u32) -> Outcome
     requires { ⌜ 0 < flag ⌝ }
-    ensures { λ r. ⌜ ((s : Setup) (rx : List ℕ) → Refines s (Step.flag flag ∷ []) (at (now (readings .entry)) (now (log .entry)) rx bus) (now (readings .entry)) (now (log .exit)) rx r) ⌝ }
+    ensures { λ r. ⌜ Does (Step.flag flag ∷ []) readings log progress r ⌝ }
 {
-    let mut bus = bus;
+    let mut progress = progress;
     loop {
-        let c = read(readings, log, bus, registers::SR1);
+        let c = read(readings, log, progress, registers::SR1);
         let Checked::Word(sr1, next) = c else {
             return outcome_of(c);
         };
-        bus = next;
+        progress = next;
         if has(sr1, flag) {
-            return Outcome::Well(bus);
+            return Outcome::Well(progress);
         }
     }
 }
 
 // SR2 reads alone until MSL or BUSY.
-fn until_master(readings: &[u32], log: &mut [u32], bus: Bus) -> Outcome
-    ensures { λ r. ⌜ ((s : Setup) (rx : List ℕ) → Refines s (Step.master ∷ []) (at (now (readings .entry)) (now (log .entry)) rx bus) (now (readings .entry)) (now (log .exit)) rx r) ⌝ }
+fn until_master(readings: &[u32], log: &mut [u32], progress: Progress) -> Outcome
+    ensures { λ r. ⌜ Does (Step.master ∷ []) readings log progress r ⌝ }
 {
-    let mut bus = bus;
+    let mut progress = progress;
     loop {
-        let c = read(readings, log, bus, registers::SR2);
+        let c = read(readings, log, progress, registers::SR2);
         let Checked::Word(sr2, next) = c else {
             return outcome_of(c);
         };
-        bus = next;
+        progress = next;
         if has(sr2, registers::MSL) {
-            return Outcome::Well(bus);
+            return Outcome::Well(progress);
         }
         if has(sr2, registers::BUSY) {
-            return Outcome::Well(bus);
+            return Outcome::Well(progress);
         }
     }
 }
 
 // Sends START and waits until we are master.
-fn request_write(readings: &[u32], log: &mut [u32], bus: Bus) -> Outcome
-    ensures { λ r. ⌜ ((s : Setup) (rx : List ℕ) → Refines s request-write (at (now (readings .entry)) (now (log .entry)) rx bus) (now (readings .entry)) (now (log .exit)) rx r) ⌝ }
+fn request_write(readings: &[u32], log: &mut [u32], progress: Progress) -> Outcome
+    ensures { λ r. ⌜ Does request-write readings log progress r ⌝ }
 {
-    let a = until_stop_clear(readings, log, bus);
-    let Outcome::Well(bus1) = a else {
+    let a = until_stop_clear(readings, log, progress);
+    let Outcome::Well(progress1) = a else {
         return a;
     };
-    let b = send_start(readings, log, bus1);
-    let Outcome::Well(bus2) = b else {
+    let b = send_start(readings, log, progress1);
+    let Outcome::Well(progress2) = b else {
         return b;
     };
-    let c = check_until(readings, log, bus2, registers::SB, Source::Unknown);
-    let Outcome::Well(bus3) = c else {
+    let c = check_until(readings, log, progress2, registers::SB, Source::Unknown);
+    let Outcome::Well(progress3) = c else {
         return c;
     };
-    check_master(readings, log, bus3)
+    check_master(readings, log, progress3)
 }
 
 // Sends the address for writing and waits for its acknowledge.
-fn address_write(readings: &[u32], log: &mut [u32], bus: Bus, addr: u32) -> Outcome
+fn address_write(readings: &[u32], log: &mut [u32], progress: Progress, addr: u32) -> Outcome
     requires { ⌜ addr < 128 ⌝ }
-    ensures { λ r. ⌜ ((s : Setup) (rx : List ℕ) → Refines s (address-write addr) (at (now (readings .entry)) (now (log .entry)) rx bus) (now (readings .entry)) (now (log .exit)) rx r) ⌝ }
+    ensures { λ r. ⌜ Does (address-write addr) readings log progress r ⌝ }
 {
-    let a = send_addr(log, bus, addr, false);
-    let Outcome::Well(bus1) = a else {
+    let a = send_addr(log, progress, addr, false);
+    let Outcome::Well(progress1) = a else {
         return a;
     };
-    let b = check_until(readings, log, bus1, registers::ADDR, Source::Address);
-    let Outcome::Well(bus2) = b else {
+    let b = check_until(readings, log, progress1, registers::ADDR, Source::Address);
+    let Outcome::Well(progress2) = b else {
         return b;
     };
-    get(readings, log, bus2, registers::SR2)
+    get(readings, log, progress2, registers::SR2)
 }
 
 // Sends START and address for writing.
-fn prepare_write(readings: &[u32], log: &mut [u32], bus: Bus, addr: u32) -> Outcome
+fn prepare_write(readings: &[u32], log: &mut [u32], progress: Progress, addr: u32) -> Outcome
     requires { ⌜ addr < 128 ⌝ }
-    ensures { λ r. ⌜ ((s : Setup) (rx : List ℕ) → Refines s (prepare-write addr) (at (now (readings .entry)) (now (log .entry)) rx bus) (now (readings .entry)) (now (log .exit)) rx r) ⌝ }
+    ensures { λ r. ⌜ Does (prepare-write addr) readings log progress r ⌝ }
 {
-    let a = request_write(readings, log, bus);
+    let a = request_write(readings, log, progress);
     let Outcome::Well(next) = a else {
         return a;
     };
@@ -319,108 +336,119 @@ fn prepare_write(readings: &[u32], log: &mut [u32], bus: Bus, addr: u32) -> Outc
 }
 
 // Sends START with ACK set, and waits until we are master.
-fn request_read(readings: &[u32], log: &mut [u32], bus: Bus) -> Outcome
-    ensures { λ r. ⌜ ((s : Setup) (rx : List ℕ) → Refines s request-read (at (now (readings .entry)) (now (log .entry)) rx bus) (now (readings .entry)) (now (log .exit)) rx r) ⌝ }
+fn request_read(readings: &[u32], log: &mut [u32], progress: Progress) -> Outcome
+    ensures { λ r. ⌜ Does request-read readings log progress r ⌝ }
 {
-    let a = until_stop_clear(readings, log, bus);
-    let Outcome::Well(bus1) = a else {
+    let a = until_stop_clear(readings, log, progress);
+    let Outcome::Well(progress1) = a else {
         return a;
     };
-    let b = request_start(readings, log, bus1, Bits(registers::START, registers::ACK));
-    let Outcome::Well(bus2) = b else {
+    let b = request_start(
+        readings,
+        log,
+        progress1,
+        Bits(registers::START, registers::ACK),
+    );
+    let Outcome::Well(progress2) = b else {
         return b;
     };
-    let c = until_flag(readings, log, bus2, registers::SB);
-    let Outcome::Well(bus3) = c else {
+    let c = until_flag(readings, log, progress2, registers::SB);
+    let Outcome::Well(progress3) = c else {
         return c;
     };
-    until_master(readings, log, bus3)
+    until_master(readings, log, progress3)
 }
 
 // Sends the address for reading and waits for its acknowledge.
-fn address_read(readings: &[u32], log: &mut [u32], bus: Bus, addr: u32) -> Outcome
+fn address_read(readings: &[u32], log: &mut [u32], progress: Progress, addr: u32) -> Outcome
     requires { ⌜ addr < 128 ⌝ }
-    ensures { λ r. ⌜ ((s : Setup) (rx : List ℕ) → Refines s (address-read addr) (at (now (readings .entry)) (now (log .entry)) rx bus) (now (readings .entry)) (now (log .exit)) rx r) ⌝ }
+    ensures { λ r. ⌜ Does (address-read addr) readings log progress r ⌝ }
 {
-    let a = send_addr(log, bus, addr, true);
-    let Outcome::Well(bus1) = a else {
+    let a = send_addr(log, progress, addr, true);
+    let Outcome::Well(progress1) = a else {
         return a;
     };
-    let b = check_twice(readings, log, bus1, registers::ADDR, Source::Address);
-    let Outcome::Well(bus2) = b else {
+    let b = check_twice(readings, log, progress1, registers::ADDR, Source::Address);
+    let Outcome::Well(progress2) = b else {
         return b;
     };
-    get(readings, log, bus2, registers::SR2)
+    get(readings, log, progress2, registers::SR2)
 }
 
 // Sends START and address for reading.
-fn prepare_read(readings: &[u32], log: &mut [u32], bus: Bus, addr: u32) -> Outcome
+fn prepare_read(readings: &[u32], log: &mut [u32], progress: Progress, addr: u32) -> Outcome
     requires { ⌜ addr < 128 ⌝ }
-    ensures { λ r. ⌜ ((s : Setup) (rx : List ℕ) → Refines s (prepare-read addr) (at (now (readings .entry)) (now (log .entry)) rx bus) (now (readings .entry)) (now (log .exit)) rx r) ⌝ }
+    ensures { λ r. ⌜ Does (prepare-read addr) readings log progress r ⌝ }
 {
-    let a = request_read(readings, log, bus);
+    let a = request_read(readings, log, progress);
     let Outcome::Well(next) = a else {
         return a;
     };
     address_read(readings, log, next, addr)
 }
 
-fn write_bytes(readings: &[u32], log: &mut [u32], bus: Bus, bytes: &[u8]) -> Outcome
-    ensures { λ r. ⌜ ((s : Setup) (rx : List ℕ) → Refines s (write-bytes (now (bytes .entry))) (at (now (readings .entry)) (now (log .entry)) rx bus) (now (readings .entry)) (now (log .exit)) rx r) ⌝ }
+fn write_bytes(readings: &[u32], log: &mut [u32], progress: Progress, bytes: &[u8]) -> Outcome
+    ensures { λ r. ⌜ Does (write-bytes (now (bytes .entry))) readings log progress r ⌝ }
 {
-    let mut bus = bus;
+    let mut progress = progress;
     let mut i: usize = 0;
     while i < bytes.len() {
-        let o = send_byte(readings, log, bus, bytes[i] as u32);
+        let o = send_byte(readings, log, progress, bytes[i] as u32);
         let Outcome::Well(next) = o else {
             return o;
         };
-        bus = next;
+        progress = next;
         i += 1;
     }
-    Outcome::Well(bus)
+    Outcome::Well(progress)
 }
 
-fn send_byte(readings: &[u32], log: &mut [u32], bus: Bus, byte: u32) -> Outcome
-    ensures { λ r. ⌜ ((s : Setup) (rx : List ℕ) → Refines s (send-byte byte) (at (now (readings .entry)) (now (log .entry)) rx bus) (now (readings .entry)) (now (log .exit)) rx r) ⌝ }
+fn send_byte(readings: &[u32], log: &mut [u32], progress: Progress, byte: u32) -> Outcome
+    ensures { λ r. ⌜ Does (send-byte byte) readings log progress r ⌝ }
 {
-    let a = check_until(readings, log, bus, registers::TXE, Source::Address);
-    let Outcome::Well(bus1) = a else {
+    let a = check_until(readings, log, progress, registers::TXE, Source::Address);
+    let Outcome::Well(progress1) = a else {
         return a;
     };
-    let b = write(log, bus1, registers::W_DR, byte);
-    let Outcome::Well(bus2) = b else {
+    let b = write(log, progress1, registers::W_DR, byte);
+    let Outcome::Well(progress2) = b else {
         return b;
     };
-    check_until(readings, log, bus2, registers::BTF, Source::Data)
+    check_until(readings, log, progress2, registers::BTF, Source::Data)
 }
 
-fn recv_byte(readings: &[u32], log: &mut [u32], rx: &mut [u8], bus: Bus) -> Outcome
-    requires { ⌜ bus .got ≤ bus .used ⌝ }
-    ensures { λ r. ⌜ ((s : Setup) → Refines s recv-byte (at (now (readings .entry)) (now (log .entry)) (now (rx .entry)) bus) (now (readings .entry)) (now (log .exit)) (now (rx .exit)) r) ⌝ }
+fn recv_byte(readings: &[u32], log: &mut [u32], rx: &mut [u8], progress: Progress) -> Outcome
+    requires { ⌜ progress .got ≤ progress .used ⌝ }
+    ensures { λ r. ⌜ ((s : Setup) → Receives s recv-byte readings log rx progress r) ⌝ }
 {
-    let a = check_twice(readings, log, bus, registers::RXNE, Source::Data);
+    let a = check_twice(readings, log, progress, registers::RXNE, Source::Data);
     let Outcome::Well(next) = a else {
         return a;
     };
     read_data(readings, log, rx, next)
 }
 
-fn read_bytes(readings: &[u32], log: &mut [u32], rx: &mut [u8], bus: Bus, count: usize) -> Outcome
-    requires { ⌜ bus .got ≤ bus .used ⌝ }
-    ensures { λ r. ⌜ ((s : Setup) → Refines s (read-bytes count) (at (now (readings .entry)) (now (log .entry)) (now (rx .entry)) bus) (now (readings .entry)) (now (log .exit)) (now (rx .exit)) r) ⌝ }
+fn read_bytes(
+    readings: &[u32],
+    log: &mut [u32],
+    rx: &mut [u8],
+    progress: Progress,
+    count: usize,
+) -> Outcome
+    requires { ⌜ progress .got ≤ progress .used ⌝ }
+    ensures { λ r. ⌜ ((s : Setup) → Receives s (read-bytes count) readings log rx progress r) ⌝ }
 {
-    let mut bus = bus;
+    let mut progress = progress;
     let mut i: usize = 0;
     while i < count {
-        let o = recv_byte(readings, log, rx, bus);
+        let o = recv_byte(readings, log, rx, progress);
         let Outcome::Well(next) = o else {
             return o;
         };
-        bus = next;
+        progress = next;
         i += 1;
     }
-    Outcome::Well(bus)
+    Outcome::Well(progress)
 }
 
 // Reads like normal but doesn't generate START and doesn't send the address.
@@ -428,71 +456,83 @@ fn read_wo_prepare(
     readings: &[u32],
     log: &mut [u32],
     rx: &mut [u8],
-    bus: Bus,
+    progress: Progress,
     count: usize,
 ) -> Outcome
-    requires { ⌜ bus .got ≤ bus .used ⌝ }
-    ensures { λ r. ⌜ ((s : Setup) → Refines s (last-read count) (at (now (readings .entry)) (now (log .entry)) (now (rx .entry)) bus) (now (readings .entry)) (now (log .exit)) (now (rx .exit)) r) ⌝ }
+    requires { ⌜ progress .got ≤ progress .used ⌝ }
+    ensures { λ r. ⌜ ((s : Setup) → Receives s (last-read count) readings log rx progress r) ⌝ }
 {
     if count == 0 {
-        return Outcome::Failed(BusError::Overrun, bus);
+        return Outcome::Failed(BusError::Overrun, progress);
     }
-    let a = read_bytes(readings, log, rx, bus, count - 1);
-    let Outcome::Well(bus1) = a else {
+    let a = read_bytes(readings, log, rx, progress, count - 1);
+    let Outcome::Well(progress1) = a else {
         return a;
     };
     // NACK, then STOP after the next byte.
     let b = modify_cr1(
         readings,
         log,
-        bus1,
+        progress1,
         Bits(registers::STOP, 0),
         Bits(registers::ACK, 0),
     );
-    let Outcome::Well(bus2) = b else {
+    let Outcome::Well(progress2) = b else {
         return b;
     };
-    let c = read_bytes(readings, log, rx, bus2, 1);
-    let Outcome::Well(bus3) = c else {
+    let c = read_bytes(readings, log, rx, progress2, 1);
+    let Outcome::Well(progress3) = c else {
         return c;
     };
-    until_stop_clear(readings, log, bus3)
+    until_stop_clear(readings, log, progress3)
 }
 
 // Writes like normal but doesn't generate START and doesn't send the address.
-fn write_wo_prepare(readings: &[u32], log: &mut [u32], bus: Bus, bytes: &[u8]) -> Outcome
-    ensures { λ r. ⌜ ((s : Setup) (rx : List ℕ) → Refines s (last-write (now (bytes .entry))) (at (now (readings .entry)) (now (log .entry)) rx bus) (now (readings .entry)) (now (log .exit)) rx r) ⌝ }
+fn write_wo_prepare(readings: &[u32], log: &mut [u32], progress: Progress, bytes: &[u8]) -> Outcome
+    ensures { λ r. ⌜ Does (last-write (now (bytes .entry))) readings log progress r ⌝ }
 {
-    let a = write_bytes(readings, log, bus, bytes);
-    let Outcome::Well(bus1) = a else {
+    let a = write_bytes(readings, log, progress, bytes);
+    let Outcome::Well(progress1) = a else {
         return a;
     };
-    let b = send_stop(readings, log, bus1);
-    let Outcome::Well(bus2) = b else {
+    let b = send_stop(readings, log, progress1);
+    let Outcome::Well(progress2) = b else {
         return b;
     };
-    until_stop_clear(readings, log, bus2)
+    until_stop_clear(readings, log, progress2)
 }
 
 // Prepared for a write, where the operation before was no write.
-fn turn_write(readings: &[u32], log: &mut [u32], bus: Bus, addr: u32, previous: Previous) -> Outcome
+fn turn_write(
+    readings: &[u32],
+    log: &mut [u32],
+    progress: Progress,
+    addr: u32,
+    previous: Previous,
+) -> Outcome
     requires { ⌜ addr < 128 ⌝ }
-    ensures { λ r. ⌜ ((s : Setup) (rx : List ℕ) → Refines s (turn-write addr previous) (at (now (readings .entry)) (now (log .entry)) rx bus) (now (readings .entry)) (now (log .exit)) rx r) ⌝ }
+    ensures { λ r. ⌜ Does (turn-write addr previous) readings log progress r ⌝ }
 {
     match previous {
-        Previous::Write => Outcome::Well(bus),
-        _ => prepare_write(readings, log, bus, addr),
+        Previous::Write => Outcome::Well(progress),
+        _ => prepare_write(readings, log, progress, addr),
     }
 }
 
 // Prepared for a read, where the operation before was no read.
-fn turn_read(readings: &[u32], log: &mut [u32], bus: Bus, addr: u32, previous: Previous) -> Outcome
+fn turn_read(
+    readings: &[u32],
+    log: &mut [u32],
+    progress: Progress,
+    addr: u32,
+    previous: Previous,
+) -> Outcome
     requires { ⌜ addr < 128 ⌝ }
-    ensures { λ r. ⌜ ((s : Setup) (rx : List ℕ) → Refines s (turn-read addr previous) (at (now (readings .entry)) (now (log .entry)) rx bus) (now (readings .entry)) (now (log .exit)) rx r) ⌝ }
+    ensures { λ r. ⌜ Does (turn-read addr previous) readings log progress r ⌝ }
 {
     match previous {
-        Previous::Read => Outcome::Well(bus),
-        _ => prepare_read(readings, log, bus, addr),
+        Previous::Read => Outcome::Well(progress),
+        _ => prepare_read(readings, log, progress, addr),
     }
 }
 
@@ -500,16 +540,16 @@ fn turn_read(readings: &[u32], log: &mut [u32], bus: Bus, addr: u32, previous: P
 pub fn write_operation(
     readings: &[u32],
     log: &mut [u32],
-    bus: Bus,
+    progress: Progress,
     addr: u32,
     previous: Previous,
     last: bool,
     bytes: &[u8],
 ) -> Outcome
     requires { ⌜ addr < 128 ⌝ }
-    ensures { λ r. ⌜ ((s : Setup) (rx : List ℕ) (early : Bool) → Refines s (operation-steps early addr previous last (Operation.write (now (bytes .entry)))) (at (now (readings .entry)) (now (log .entry)) rx bus) (now (readings .entry)) (now (log .exit)) rx r) ⌝ }
+    ensures { λ r. ⌜ ((early : Bool) → Does (operation-steps early addr previous last (Operation.write (now (bytes .entry)))) readings log progress r) ⌝ }
 {
-    let a = turn_write(readings, log, bus, addr, previous);
+    let a = turn_write(readings, log, progress, addr, previous);
     let Outcome::Well(next) = a else {
         return a;
     };
@@ -524,20 +564,20 @@ pub fn read_operation(
     readings: &[u32],
     log: &mut [u32],
     rx: &mut [u8],
-    bus: Bus,
+    progress: Progress,
     addr: u32,
     previous: Previous,
     last: bool,
     early: bool,
     count: usize,
 ) -> Outcome
-    requires { ⌜ (addr < 128) × (bus .got ≤ bus .used) ⌝ }
-    ensures { λ r. ⌜ ((s : Setup) → Refines s (operation-steps early addr previous last (Operation.read count)) (at (now (readings .entry)) (now (log .entry)) (now (rx .entry)) bus) (now (readings .entry)) (now (log .exit)) (now (rx .exit)) r) ⌝ }
+    requires { ⌜ (addr < 128) × (progress .got ≤ progress .used) ⌝ }
+    ensures { λ r. ⌜ ((s : Setup) → Receives s (operation-steps early addr previous last (Operation.read count)) readings log rx progress r) ⌝ }
 {
     if early & (count == 0) {
-        return Outcome::Failed(BusError::Overrun, bus);
+        return Outcome::Failed(BusError::Overrun, progress);
     }
-    let a = turn_read(readings, log, bus, addr, previous);
+    let a = turn_read(readings, log, progress, addr, previous);
     let Outcome::Well(next) = a else {
         return a;
     };

@@ -9,7 +9,7 @@ use lib.ListN.{length, getD, length-set, drop-of-length-le}
 use lib.Seq.{drop-drop, drop-cons}
 use borrow.Author.Tests.{eq-eqb, ne-eqb, eqb-true, leb-false}
 use Rattle.units.specs.declared.Setup.{Setup}
-use Rattle.registers.specs.declared.Bus.{Bus}
+use Rattle.registers.specs.declared.Progress.{Progress}
 use Rattle.registers.specs.declared.BusError.{BusError}
 use Rattle.registers.specs.declared.Cut.{Cut}
 use Rattle.registers.specs.declared.Entry.{Entry}
@@ -102,7 +102,7 @@ done-law s st = go (room st)
     go (suc n) = refl
 
 -- one access at a state written out
-module _ (rs lg rx : List ℕ) (b : Bus) where
+module _ (rs lg rx : List ℕ) (b : Progress) where
   pub read-full : (c : ℕ) → entries-in (length lg) ≤ b .made → read c (at rs lg rx b) ≡ Took.cut-short Cut.NoRecord (at rs lg rx b)
   unfolding read read-one room left
   read-full c h =

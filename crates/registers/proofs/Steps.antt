@@ -11,7 +11,7 @@ use lib.Dec.{eqb}
 use types.Run.{OneOf}
 use denote.Enum.Declared.{tagOf}
 use Rattle.units.specs.declared.Setup.{Setup}
-use Rattle.registers.specs.declared.Bus.{Bus}
+use Rattle.registers.specs.declared.Progress.{Progress}
 use Rattle.registers.specs.declared.BusError.{BusError}
 use Rattle.registers.specs.declared.Checked.{Checked}
 use Rattle.registers.specs.declared.Outcome.{Outcome}
@@ -20,7 +20,7 @@ use Rattle.registers.proofs.Outcome as O
 use Rattle.registers.specs.Access.{CYC, DR, is-read, is-data, cut, entries-in}
 use Rattle.registers.specs.Machine.{Step, Handler, handle, Access, access, next}
 use Rattle.registers.specs.State.{State, After, Took, at, word, then, taking, entry, recorded, received, room, left, resume, read-one, read}
-use Rattle.registers.specs.Contract.{outcome, checked, outcome-of, handled, Reads, Writes, Refines, Reaches, Waits}
+use Rattle.registers.specs.Contract.{outcome, checked, outcome-of, handled, ReadsFrom, WritesFrom, Refines, Reaches, WaitsFrom}
 use Rattle.registers.proofs.Laws.{read-law, write-law, fail-law, done-law, received-other, resume-fewer}
 
 -- the tags of an answer that is no word, and of an outcome that is not well
@@ -57,8 +57,8 @@ rewritten e g = rw e at g
 
 -- a read that is no DR read, for the step i
 module _ {s : Setup} {q : List Step} {st : State} {i : Step} {q₁ : List Step} {st₁ : State} (g : Reaches s q st (i ∷ q₁) st₁)
-    {c : ℕ} {rs lg rx : List ℕ} {r : Checked} (x : Reads c st₁ rs lg rx r) (a : access i ≡ Access.read c) (t : is-read c ≡ true) where
-  pub read-step : is-data c ≡ false → {v : ℕ} {b : Bus} → r ≡ Checked.Word v b → {m : List Step} → next s i v ≡ m → Reaches s q st (m ++ q₁) (at rs lg rx b)
+    {c : ℕ} {rs lg rx : List ℕ} {r : Checked} (x : ReadsFrom c st₁ rs lg rx r) (a : access i ≡ Access.read c) (t : is-read c ≡ true) where
+  pub read-step : is-data c ≡ false → {v : ℕ} {b : Progress} → r ≡ Checked.Word v b → {m : List Step} → next s i v ≡ m → Reaches s q st (m ++ q₁) (at rs lg rx b)
   read-step u {v} {b} e {m} n =
       record { is = λ p. g .is p ∙ read-law s i c (q₁ ++ p) st₁ a t ∙ rw (← x .is, e, received-other (entry c v) (at rs lg rx b) u, n, append-assoc m q₁ p) }
 
@@ -67,8 +67,8 @@ module _ {s : Setup} {q : List Step} {st : State} {i : Step} {q₁ : List Step} 
 
 -- a write
 module _ {s : Setup} {q : List Step} {st : State} {c v : ℕ} {q₁ : List Step} {st₁ : State} (g : Reaches s q st (Step.put c v ∷ q₁) st₁)
-    {rs lg rx : List ℕ} {o : Outcome} (x : Writes c v st₁ rs lg rx o) (t : is-read c ≡ false) where
-  pub write-step : {b : Bus} → o ≡ Outcome.Well b → Reaches s q st q₁ (at rs lg rx b)
+    {rs lg rx : List ℕ} {o : Outcome} (x : WritesFrom c v st₁ rs lg rx o) (t : is-read c ≡ false) where
+  pub write-step : {b : Progress} → o ≡ Outcome.Well b → Reaches s q st q₁ (at rs lg rx b)
   write-step e = record { is = λ p. g .is p ∙ write-law s c v (q₁ ++ p) st₁ t ∙ rw (← x .is, e) }
 
   pub write-stops : NotWell o → Refines s q st rs lg rx o
@@ -77,23 +77,23 @@ module _ {s : Setup} {q : List Step} {st : State} {c v : ℕ} {q₁ : List Step}
 -- a call of a function that does the steps q₀
 module _ {s : Setup} {q₀ : List Step} {st₁ : State} {rs lg rx : List ℕ} {o : Outcome} (x : Refines s q₀ st₁ rs lg rx o)
     (q₁ : List Step) {q : List Step} {st : State} (g : Reaches s q st (q₀ ++ q₁) st₁) where
-  pub call-step : {b : Bus} → o ≡ Outcome.Well b → Reaches s q st q₁ (at rs lg rx b)
+  pub call-step : {b : Progress} → o ≡ Outcome.Well b → Reaches s q st q₁ (at rs lg rx b)
   call-step e = record { is = λ p. g .is p ∙ rw append-assoc (x .is (q₁ ++ p) ∙ rw e) }
 
   pub call-stops : NotWell o → Refines s q st rs lg rx o
   call-stops h = record { is = λ p. g .is p ∙ rw append-assoc (x .is (q₁ ++ p) ∙ not-well o h rs lg rx _ _) }
 
 -- the end
-pub ends-well : {s : Setup} {q : List Step} {st : State} {rs lg rx : List ℕ} {b : Bus} → Reaches s q st [] (at rs lg rx b) → Refines s q st rs lg rx (Outcome.Well b)
+pub ends-well : {s : Setup} {q : List Step} {st : State} {rs lg rx : List ℕ} {b : Progress} → Reaches s q st [] (at rs lg rx b) → Refines s q st rs lg rx (Outcome.Well b)
 ends-well g = record { is = λ p. g .is p }
 
-pub ends-failed : {s : Setup} {q : List Step} {st : State} {rs lg rx : List ℕ} {b : Bus} {e : BusError} {q₁ : List Step}
+pub ends-failed : {s : Setup} {q : List Step} {st : State} {rs lg rx : List ℕ} {b : Progress} {e : BusError} {q₁ : List Step}
     → Reaches s q st (Step.fail e ∷ q₁) (at rs lg rx b) → Refines s q st rs lg rx (Outcome.Failed e b)
 ends-failed {s} {e = e} {q₁} g = record { is = λ p. g .is p ∙ fail-law s e (q₁ ++ p) _ }
 
 -- the last thing done is a read for its own sake, a write, or a call
 pub read-last : {s : Setup} {q : List Step} {st : State} {i : Step} {st₁ : State} (g : Reaches s q st (i ∷ []) st₁)
-    {c : ℕ} {rs lg rx : List ℕ} {r : Checked} (x : Reads c st₁ rs lg rx r) → access i ≡ Access.read c → is-read c ≡ true → is-data c ≡ false
+    {c : ℕ} {rs lg rx : List ℕ} {r : Checked} (x : ReadsFrom c st₁ rs lg rx r) → access i ≡ Access.read c → is-read c ≡ true → is-data c ≡ false
     → ((v : ℕ) → next s i v ≡ []) → Refines s q st rs lg rx (outcome-of r)
 read-last {s} {q} {st} {i} {st₁} g {c} {rs} {lg} {rx} {r} x a t u n = record { is = λ p. g .is p ∙ read-law s i c p st₁ a t ∙ rw (← x .is) (go p r) }
   where
@@ -104,7 +104,7 @@ read-last {s} {q} {st} {i} {st₁} g {c} {rs} {lg} {rx} {r} x a t u n = record {
     go p (Checked.CutShort c b) = refl
 
 pub write-last : {s : Setup} {q : List Step} {st : State} {c v : ℕ} {st₁ : State} → Reaches s q st (Step.put c v ∷ []) st₁
-    → {rs lg rx : List ℕ} {o : Outcome} → Writes c v st₁ rs lg rx o → is-read c ≡ false → Refines s q st rs lg rx o
+    → {rs lg rx : List ℕ} {o : Outcome} → WritesFrom c v st₁ rs lg rx o → is-read c ≡ false → Refines s q st rs lg rx o
 write-last {s} {q} {st} {c} {v} {st₁} g x t = record { is = λ p. g .is p ∙ write-law s c v p st₁ t ∙ rw (← x .is) }
 
 pub call-last : {s : Setup} {q : List Step} {st : State} {q₁ : List Step} {st₁ : State} → Reaches s q st q₁ st₁
@@ -112,17 +112,17 @@ pub call-last : {s : Setup} {q : List Step} {st : State} {q₁ : List Step} {st�
 call-last g x = record { is = λ p. g .is p ∙ x .is p }
 
 -- a read of DR: its low byte is received
-pub data-step : {s : Setup} {st : State} {rs lg rx : List ℕ} {r : Checked} → Reads DR st rs lg rx r → {v : ℕ} {b : Bus} → r ≡ Checked.Word v b
-    → {rx′ : List ℕ} {b′ : Bus} → received (entry DR v) (at rs lg rx b) ≡ at rs lg rx′ b′ → Refines s (Step.get DR ∷ []) st rs lg rx′ (Outcome.Well b′)
+pub data-step : {s : Setup} {st : State} {rs lg rx : List ℕ} {r : Checked} → ReadsFrom DR st rs lg rx r → {v : ℕ} {b : Progress} → r ≡ Checked.Word v b
+    → {rx′ : List ℕ} {b′ : Progress} → received (entry DR v) (at rs lg rx b) ≡ at rs lg rx′ b′ → Refines s (Step.get DR ∷ []) st rs lg rx′ (Outcome.Well b′)
 unfolding next
 data-step {s} {st} x e f = record { is = λ p. read-law s (Step.get DR) DR p st refl refl ∙ rw (← x .is, e, f) }
 
 -- the accesses that still fit
-abbrev pub fitting : List ℕ → Bus → ℕ
+abbrev pub fitting : List ℕ → Progress → ℕ
 fitting lg b = entries-in (length lg) - b .made
 
 -- what a word read says of them: fewer
-pub record Fell (lg : List ℕ) (b b′ : Bus) : Type 0 where
+pub record Fell (lg : List ℕ) (b b′ : Progress) : Type 0 where
   pub fits : b .made < entries-in (length lg)
   pub more : b .made < b′ .made
 
@@ -131,8 +131,8 @@ made-of (Took.word v (at rs lg rx b)) = b .made
 made-of (Took.failed e st) = 0
 made-of (Took.cut-short c st) = 0
 
-pub read-fell : {c : ℕ} {rs lg rx : List ℕ} {b : Bus} {rs′ lg′ rx′ : List ℕ} {r : Checked} {v : ℕ} {b′ : Bus}
-    → Reads c (at rs lg rx b) rs′ lg′ rx′ r → r ≡ Checked.Word v b′ → Fell lg b b′
+pub read-fell : {c : ℕ} {rs lg rx : List ℕ} {b : Progress} {rs′ lg′ rx′ : List ℕ} {r : Checked} {v : ℕ} {b′ : Progress}
+    → ReadsFrom c (at rs lg rx b) rs′ lg′ rx′ r → r ≡ Checked.Word v b′ → Fell lg b b′
 unfolding read read-one recorded room
 read-fell {c} {rs} {lg} {rx} {b} {rs′} {lg′} {rx′} {r} {v} {b′} x e =
     go (left (at rs lg rx b)) (room (at rs lg rx b)) refl (ap (checked rs′ lg′ rx′) (sym e) ∙ x .is)
@@ -148,8 +148,8 @@ value-of (Took.failed e st) = 0
 value-of (Took.cut-short c st) = 0
 
 -- a register word is 16 bits wide
-pub read-small : {c : ℕ} {st : State} {rs lg rx : List ℕ} {r : Checked} {v : ℕ} {b : Bus}
-    → Reads c st rs lg rx r → eqb c CYC ≡ false → r ≡ Checked.Word v b → v < 65536
+pub read-small : {c : ℕ} {st : State} {rs lg rx : List ℕ} {r : Checked} {v : ℕ} {b : Progress}
+    → ReadsFrom c st rs lg rx r → eqb c CYC ≡ false → r ≡ Checked.Word v b → v < 65536
 unfolding read read-one cut
 read-small {c} {st} {rs} {lg} {rx} {r} {v} {b} x t e = go (left st) (room st) (ap (checked rs lg rx) (sym e) ∙ x .is)
   where
@@ -158,19 +158,19 @@ read-small {c} {st} {rs} {lg} {rx} {r} {v} {b} x t e = go (left st) (room st) (a
     go [] (suc n) k = let z : _≡_ {A = ℕ} 0 1 = cc in absurd (omega arith)
     go (w ∷ ws) (suc n) k = omega (arith, (rw t at (ap value-of k)))
 
-abbrev bus-of : Took → Bus → Bus
-bus-of (Took.word v (at rs lg rx b)) d = b
-bus-of (Took.failed e st) d = d
-bus-of (Took.cut-short c st) d = d
+abbrev progress-of : Took → Progress → Progress
+progress-of (Took.word v (at rs lg rx b)) d = b
+progress-of (Took.failed e st) d = d
+progress-of (Took.cut-short c st) d = d
 
 -- a read uses a reading that is there, and receives no byte by itself
-pub record Counted (rs : List ℕ) (b b′ : Bus) : Type 0 where
+pub record Counted (rs : List ℕ) (b b′ : Progress) : Type 0 where
   pub there : b .used < length rs
   pub used : b′ .used ≡ b .used + 1
   pub got : b′ .got ≡ b .got
 
-pub read-counts : {c : ℕ} {rs lg rx : List ℕ} {b : Bus} {rs′ lg′ rx′ : List ℕ} {r : Checked} {v : ℕ} {b′ : Bus}
-    → Reads c (at rs lg rx b) rs′ lg′ rx′ r → is-read c ≡ true → r ≡ Checked.Word v b′ → Counted rs b b′
+pub read-counts : {c : ℕ} {rs lg rx : List ℕ} {b : Progress} {rs′ lg′ rx′ : List ℕ} {r : Checked} {v : ℕ} {b′ : Progress}
+    → ReadsFrom c (at rs lg rx b) rs′ lg′ rx′ r → is-read c ≡ true → r ≡ Checked.Word v b′ → Counted rs b b′
 unfolding read read-one recorded left
 read-counts {c} {rs} {lg} {rx} {b} {rs′} {lg′} {rx′} {r} {v} {b′} x t e =
     go (left (at rs lg rx b)) (room (at rs lg rx b)) refl (ap (checked rs′ lg′ rx′) (sym e) ∙ x .is)
@@ -179,11 +179,11 @@ read-counts {c} {rs} {lg} {rx} {b} {rs′} {lg′} {rx′} {r} {v} {b′} x t e 
     go ws zero l k = let z : _≡_ {A = ℕ} 0 1 = cc in absurd (omega arith)
     go [] (suc n) l k = let z : _≡_ {A = ℕ} 0 1 = cc in absurd (omega arith)
     go (w ∷ ws) (suc n) l k =
-        let e = ap (λ (z : Took). bus-of z b) k in
+        let e = ap (λ (z : Took). progress-of z b) k in
         record {
           there = omega (arith, simp length-drop at (ap length l));
-          used = rw t at (ap (λ (z : Bus). z .used) e);
-          got = ap (λ (z : Bus). z .got) e;
+          used = rw t at (ap (λ (z : Progress). z .used) e);
+          got = ap (λ (z : Progress). z .got) e;
         }
 
 -- a setup, where a function keeps something at every one
@@ -200,7 +200,7 @@ no-setup =
     }
 
 -- a function that does steps keeps the bytes received at most the readings used
-pub keeps-fewer : {s : Setup} {q : List Step} {rs lg rx : List ℕ} {b : Bus} {rs′ lg′ rx′ : List ℕ} {o : Outcome} {b′ : Bus}
+pub keeps-fewer : {s : Setup} {q : List Step} {rs lg rx : List ℕ} {b : Progress} {rs′ lg′ rx′ : List ℕ} {o : Outcome} {b′ : Progress}
     → Refines s q (at rs lg rx b) rs′ lg′ rx′ o → o ≡ Outcome.Well b′ → b .got ≤ b .used → b′ .got ≤ b′ .used
 keeps-fewer {s} {q} {rs} {lg} {rx} {b} {rs′} {lg′} {rx′} {o} {b′} x e h =
     resume-fewer s q (at rs lg rx b) (at rs′ lg′ rx′ b′) (rw append-nil at (x .is []) ∙ rw (e, done-law)) h
@@ -208,7 +208,7 @@ keeps-fewer {s} {q} {rs} {lg} {rx} {b} {rs′} {lg′} {rx′} {o} {b′} x e h 
 -- a timed wait
 
 -- its error is handled by ending the call
-pub waits-end : {s : Setup} {q : List Step} {st : State} {rs lg rx : List ℕ} {o : Outcome} → Waits s Handler.ends q st rs lg rx o → Refines s q st rs lg rx o
+pub waits-end : {s : Setup} {q : List Step} {st : State} {rs lg rx : List ℕ} {o : Outcome} → WaitsFrom s Handler.ends q st rs lg rx o → Refines s q st rs lg rx o
 unfolding handle
 waits-end {s} {q} {st} {rs} {lg} {rx} {o} x = record { is = λ p. x .is p ∙ go p o }
   where
@@ -218,18 +218,18 @@ waits-end {s} {q} {st} {rs} {lg} {rx} {o} x = record { is = λ p. x .is p ∙ go
     go p (Outcome.CutShort c b) = refl
 
 -- it went well: on with what is left
-pub wait-step : {s : Setup} {h : Handler} {q₀ : List Step} {st₁ : State} {rs lg rx : List ℕ} {o : Outcome} → Waits s h q₀ st₁ rs lg rx o
-    → (q₁ : List Step) {q : List Step} {st : State} → Reaches s q st (q₀ ++ q₁) st₁ → {b : Bus} → o ≡ Outcome.Well b → Reaches s q st q₁ (at rs lg rx b)
+pub wait-step : {s : Setup} {h : Handler} {q₀ : List Step} {st₁ : State} {rs lg rx : List ℕ} {o : Outcome} → WaitsFrom s h q₀ st₁ rs lg rx o
+    → (q₁ : List Step) {q : List Step} {st : State} → Reaches s q st (q₀ ++ q₁) st₁ → {b : Progress} → o ≡ Outcome.Well b → Reaches s q st q₁ (at rs lg rx b)
 wait-step x q₁ g k = record { is = λ p. g .is p ∙ rw append-assoc (x .is (q₁ ++ p) ∙ rw k) }
 
 -- it failed: to the handler
-pub wait-fails : {s : Setup} {h : Handler} {q₀ : List Step} {st₁ : State} {rs lg rx : List ℕ} {o : Outcome} → Waits s h q₀ st₁ rs lg rx o
-    → (q₁ : List Step) {q : List Step} {st : State} → Reaches s q st (q₀ ++ q₁) st₁ → {e : BusError} {b : Bus} → o ≡ Outcome.Failed e b
+pub wait-fails : {s : Setup} {h : Handler} {q₀ : List Step} {st₁ : State} {rs lg rx : List ℕ} {o : Outcome} → WaitsFrom s h q₀ st₁ rs lg rx o
+    → (q₁ : List Step) {q : List Step} {st : State} → Reaches s q st (q₀ ++ q₁) st₁ → {e : BusError} {b : Progress} → o ≡ Outcome.Failed e b
     → Reaches s q st (handle s h e ++ q₁) (at rs lg rx b)
 wait-fails {s} {h} {q₀} x q₁ g {e} k = record { is = λ p. g .is p ∙ rw (append-assoc q₀ q₁ p, append-assoc (handle s h e) q₁ p) (x .is (q₁ ++ p) ∙ rw k) }
 
 -- it is the last thing done, and did not fail
-pub wait-last : {s : Setup} {h : Handler} {q₀ : List Step} {st₁ : State} {rs lg rx : List ℕ} {o : Outcome} → Waits s h q₀ st₁ rs lg rx o
+pub wait-last : {s : Setup} {h : Handler} {q₀ : List Step} {st₁ : State} {rs lg rx : List ℕ} {o : Outcome} → WaitsFrom s h q₀ st₁ rs lg rx o
     → {q : List Step} {st : State} → Reaches s q st q₀ st₁ → OneOf (0 ∷ 2 ∷ []) (tagOf O.the-type o) → Refines s q st rs lg rx o
 wait-last {s} {h} {q₀} {st₁} {rs} {lg} {rx} {o} x g k = record { is = λ p. g .is p ∙ x .is p ∙ go p o k }
   where
@@ -240,9 +240,9 @@ wait-last {s} {h} {q₀} {st₁} {rs} {lg} {rx} {o} x g k = record { is = λ p. 
 
 -- the last thing done is a wait
 pub waits-last : {s : Setup} {h : Handler} {q : List Step} {st : State} {q₁ : List Step} {st₁ : State} → Reaches s q st q₁ st₁
-    → {rs lg rx : List ℕ} {o : Outcome} → Waits s h q₁ st₁ rs lg rx o → Waits s h q st rs lg rx o
+    → {rs lg rx : List ℕ} {o : Outcome} → WaitsFrom s h q₁ st₁ rs lg rx o → WaitsFrom s h q st rs lg rx o
 waits-last g x = record { is = λ p. g .is p ∙ x .is p }
 
 -- nothing is left to wait for
-pub waits-well : {s : Setup} {h : Handler} {q : List Step} {st : State} {rs lg rx : List ℕ} {b : Bus} → Reaches s q st [] (at rs lg rx b) → Waits s h q st rs lg rx (Outcome.Well b)
+pub waits-well : {s : Setup} {h : Handler} {q : List Step} {st : State} {rs lg rx : List ℕ} {b : Progress} → Reaches s q st [] (at rs lg rx b) → WaitsFrom s h q st rs lg rx (Outcome.Well b)
 waits-well g = record { is = λ p. g .is p }

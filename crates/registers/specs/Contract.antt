@@ -1,10 +1,13 @@
--- What a function's answer means: the state that it leaves, and that the rest of the run comes to the same from there.
+-- The forms of the contracts: what a function's answer means, by the state that it leaves and what comes of the rest of the run from there.
 use Prim.Native.Nat.{ℕ}
 use mathlib.Core.Path.{_≡_}
 use mathlib.Core.List.{List, _++_}
+use denote.Ref.{RefT, now}
+use denote.Triple.Both.{Both}
 use Rattle.units.specs.declared.Setup.{Setup}
 use Rattle.registers.specs.declared.Source.{Source}
 use Rattle.registers.specs.declared.BusError.{BusError}
+use Rattle.registers.specs.declared.Progress.{Progress}
 use Rattle.registers.specs.declared.Outcome.{Outcome}
 use Rattle.registers.specs.declared.Checked.{Checked}
 use Rattle.registers.specs.Access.{Ending}
@@ -46,15 +49,15 @@ ending-of (Outcome.Failed e b) = Ending.failed e
 ending-of (Outcome.CutShort c b) = Ending.cut-short c
 
 -- one read of the register c from st answers r, and leaves these readings, this record and these received bytes
-pub record Reads (c : ℕ) (st : State) (rs lg rx : List ℕ) (r : Checked) : Type 0 where
+pub record ReadsFrom (c : ℕ) (st : State) (rs lg rx : List ℕ) (r : Checked) : Type 0 where
   pub is : checked rs lg rx r ≡ read c st
 
 -- one write of v to the register c
-pub record Writes (c v : ℕ) (st : State) (rs lg rx : List ℕ) (o : Outcome) : Type 0 where
+pub record WritesFrom (c v : ℕ) (st : State) (rs lg rx : List ℕ) (o : Outcome) : Type 0 where
   pub is : outcome rs lg rx o ≡ write c v st
 
 -- one check
-pub record Checks (n : Source) (st : State) (rs lg rx : List ℕ) (r : Checked) : Type 0 where
+pub record ChecksFrom (n : Source) (st : State) (rs lg rx : List ℕ) (r : Checked) : Type 0 where
   pub is : checked rs lg rx r ≡ check n st
 
 -- the steps q are done: whatever steps p come after them, the run goes on with p from the state left, or has ended there
@@ -71,5 +74,37 @@ handled s h rs lg rx (Outcome.Well b) p = resume s p (at rs lg rx b)
 handled s h rs lg rx (Outcome.Failed e b) p = resume s (handle s h e ++ p) (at rs lg rx b)
 handled s h rs lg rx (Outcome.CutShort c b) p = After.cut-short c (at rs lg rx b)
 
-pub record Waits (s : Setup) (h : Handler) (q : List Step) (st : State) (rs lg rx : List ℕ) (o : Outcome) : Type 0 where
+pub record WaitsFrom (s : Setup) (h : Handler) (q : List Step) (st : State) (rs lg rx : List ℕ) (o : Outcome) : Type 0 where
   pub is : (p : List Step) → resume s (q ++ p) st ≡ handled s h rs lg rx o p
+
+-- The same of a function's parameters, as its contract has them. A slice is what it holds at the call (`entry`) and at the return (`exit`).
+
+abbrev pub Slice : Type 0
+Slice = Both (RefT (List ℕ)) (RefT (List ℕ))
+
+-- one read of the register c, whatever is received
+abbrev pub Reads : ℕ → (readings log : Slice) → Progress → Checked → Type 0
+Reads c readings log b r = (rx : List ℕ) → ReadsFrom c (at (now (readings .entry)) (now (log .entry)) rx b) (now (readings .entry)) (now (log .exit)) rx r
+
+-- one write of v to the register c, whatever the readings
+abbrev pub Writes : (c v : ℕ) → (log : Slice) → Progress → Outcome → Type 0
+Writes c v log b r = (rs rx : List ℕ) → WritesFrom c v (at rs (now (log .entry)) rx b) rs (now (log .exit)) rx r
+
+-- one check
+abbrev pub Checks : Source → (readings log : Slice) → Progress → Checked → Type 0
+Checks n readings log b r = (rx : List ℕ) → ChecksFrom n (at (now (readings .entry)) (now (log .entry)) rx b) (now (readings .entry)) (now (log .exit)) rx r
+
+-- the steps q with this setup, and with every setup
+abbrev pub DoesWith : Setup → List Step → (readings log : Slice) → Progress → Outcome → Type 0
+DoesWith s q readings log b r = (rx : List ℕ) → Refines s q (at (now (readings .entry)) (now (log .entry)) rx b) (now (readings .entry)) (now (log .exit)) rx r
+
+abbrev pub Does : List Step → (readings log : Slice) → Progress → Outcome → Type 0
+Does q readings log b r = (s : Setup) → DoesWith s q readings log b r
+
+-- the steps q with this setup, where bytes are received
+abbrev pub Receives : Setup → List Step → (readings log rx : Slice) → Progress → Outcome → Type 0
+Receives s q readings log rx b r = Refines s q (at (now (readings .entry)) (now (log .entry)) (now (rx .entry)) b) (now (readings .entry)) (now (log .exit)) (now (rx .exit)) r
+
+-- a timed wait with this setup, whose error is left to this handler
+abbrev pub Waits : Setup → Handler → List Step → (readings log : Slice) → Progress → Outcome → Type 0
+Waits s h q readings log b r = (rx : List ℕ) → WaitsFrom s h q (at (now (readings .entry)) (now (log .entry)) rx b) (now (readings .entry)) (now (log .exit)) rx r

@@ -8,7 +8,7 @@ use Rattle.registers.specs.declared.Source.{Source}
 use Rattle.registers.specs.declared.BusError.{BusError}
 use Rattle.registers.specs.declared.Cut.{Cut}
 use Rattle.registers.specs.declared.Entry.{Entry}
-use Rattle.registers.specs.declared.Bus.{Bus}
+use Rattle.registers.specs.declared.Progress.{Progress}
 use Rattle.registers.specs.declared.Flagged.{Flagged}
 use Rattle.registers.specs.Word.{has, BERR}
 use Rattle.registers.specs.Access.{SR1, wSR1, is-read, is-data, cut, low-byte, clear-word, entries-in, store, Ending}
@@ -16,7 +16,7 @@ use Rattle.registers.specs.Machine.{Step, exec, check-word}
 
 -- the readings, the record, the received buffer, and how far the run has come
 pub data State : Type 0 where
-  at : List ℕ → List ℕ → List ℕ → Bus → State
+  at : List ℕ → List ℕ → List ℕ → Progress → State
 
 abbrev pub entry : ℕ → ℕ → Entry
 entry c v = record { code = c; value = v }

@@ -1,16 +1,15 @@
 // Registers, one access at a time: the words and bits of RM0008, how a call can end, one read and one write.
 ghost use mathlib.Core.Path.{_≡_};
 ghost use mathlib.Core.Bool.{true, false};
-ghost use mathlib.Core.List.{List, [], _∷_};
-ghost use Prim.Native.Nat.{ℕ, _+_, _*_, _<_, _≤_, _^_};
+ghost use mathlib.Core.List.{[], _∷_};
+ghost use Prim.Native.Nat.{_+_, _<_, _≤_, _^_};
 ghost use lib.ListN.{length};
 ghost use Rattle.units.specs.declared.Setup.{Setup};
 ghost use Rattle.registers.specs.Word.{has, with-bit, without-bit, with-bits, without-bits};
 ghost use lib.Dec.{leb};
-ghost use Rattle.registers.specs.Access.{is-read, is-data, entries-in, store, clear-word, number, failed};
+ghost use Rattle.registers.specs.Access.{DR, wSR1, is-read, is-data, entries-in, store, clear-word, number, failed};
 ghost use Rattle.registers.specs.Machine.{Step};
-ghost use Rattle.registers.specs.State.{at};
-ghost use Rattle.registers.specs.Contract.{outcome-of, failed-of, word-of, ending-of, Reads, Writes, Refines};
+ghost use Rattle.registers.specs.Contract.{outcome-of, failed-of, word-of, ending-of, Reads, Writes, Does, Receives};
 
 // Codes of the record: reads.
 pub const SR1: u32 = 1;
@@ -98,7 +97,7 @@ pub enum Cut {
 }
 
 // How far a run has come: readings used, accesses made, bytes received.
-pub struct Bus {
+pub struct Progress {
     pub used: usize,
     pub made: usize,
     pub got: usize,
@@ -106,16 +105,16 @@ pub struct Bus {
 
 // How a call, or a part of one, ended.
 pub enum Outcome {
-    Well(Bus),
-    Failed(BusError, Bus),
-    CutShort(Cut, Bus),
+    Well(Progress),
+    Failed(BusError, Progress),
+    CutShort(Cut, Progress),
 }
 
 // What a read or a check of SR1 answers: the word, or why there is none.
 pub enum Checked {
-    Word(u32, Bus),
-    Failed(BusError, Bus),
-    CutShort(Cut, Bus),
+    Word(u32, Progress),
+    Failed(BusError, Progress),
+    CutShort(Cut, Progress),
 }
 
 // The first error flag of an SR1 word.
@@ -184,10 +183,10 @@ fn altered(word: u32, on: Bits, off: Bits) -> u32
 }
 
 // Whether too few record words remain for another entry.
-fn full(log: &[u32], bus: Bus) -> bool
-    ensures { λ r. ⌜ r ≡ leb (entries-in (length (now (log .entry)))) (bus .made) ⌝ }
+fn full(log: &[u32], progress: Progress) -> bool
+    ensures { λ r. ⌜ r ≡ leb (entries-in (length (now (log .entry)))) (progress .made) ⌝ }
 {
-    log.len() / 2 <= bus.made
+    log.len() / 2 <= progress.made
 }
 
 // Entry number k of the record.
@@ -200,17 +199,17 @@ fn put_entry(log: &mut [u32], k: usize, entry: Entry)
 }
 
 // One read: the next reading, cut to its register and recorded. Record space is tested before readings.
-pub fn read(readings: &[u32], log: &mut [u32], bus: Bus, code: u32) -> Checked
+pub fn read(readings: &[u32], log: &mut [u32], progress: Progress, code: u32) -> Checked
     requires { ⌜ is-read code ≡ true ⌝ }
-    ensures { λ r. ⌜ ((rx : List ℕ) → Reads code (at (now (readings .entry)) (now (log .entry)) rx bus) (now (readings .entry)) (now (log .exit)) rx r) ⌝ }
+    ensures { λ r. ⌜ Reads code readings log progress r ⌝ }
 {
-    if full(log, bus) {
-        return Checked::CutShort(Cut::NoRecord, bus);
+    if full(log, progress) {
+        return Checked::CutShort(Cut::NoRecord, progress);
     }
-    let made = bus.made;
-    let used = bus.used;
+    let made = progress.made;
+    let used = progress.used;
     if readings.len() <= used {
-        return Checked::CutShort(Cut::NoReadings, bus);
+        return Checked::CutShort(Cut::NoReadings, progress);
     }
     let mut value = readings[used];
     if code != CYC {
@@ -219,28 +218,28 @@ pub fn read(readings: &[u32], log: &mut [u32], bus: Bus, code: u32) -> Checked
     put_entry(log, made, Entry { code, value });
     Checked::Word(
         value,
-        Bus {
+        Progress {
             used: used + 1,
             made: made + 1,
-            got: bus.got,
+            got: progress.got,
         },
     )
 }
 
 // One write, recorded.
-pub fn write(log: &mut [u32], bus: Bus, code: u32, value: u32) -> Outcome
+pub fn write(log: &mut [u32], progress: Progress, code: u32, value: u32) -> Outcome
     requires { ⌜ is-read code ≡ false ⌝ }
-    ensures { λ r. ⌜ ((rs rx : List ℕ) → Writes code value (at rs (now (log .entry)) rx bus) rs (now (log .exit)) rx r) ⌝ }
+    ensures { λ r. ⌜ Writes code value log progress r ⌝ }
 {
-    if full(log, bus) {
-        return Outcome::CutShort(Cut::NoRecord, bus);
+    if full(log, progress) {
+        return Outcome::CutShort(Cut::NoRecord, progress);
     }
-    let made = bus.made;
+    let made = progress.made;
     put_entry(log, made, Entry { code, value });
-    Outcome::Well(Bus {
-        used: bus.used,
+    Outcome::Well(Progress {
+        used: progress.used,
         made: made + 1,
-        got: bus.got,
+        got: progress.got,
     })
 }
 
@@ -249,9 +248,9 @@ pub fn outcome_of(c: Checked) -> Outcome
     ensures { λ r. ⌜ r ≡ outcome-of c ⌝ }
 {
     match c {
-        Checked::Word(_, bus) => Outcome::Well(bus),
-        Checked::Failed(e, bus) => Outcome::Failed(e, bus),
-        Checked::CutShort(cut, bus) => Outcome::CutShort(cut, bus),
+        Checked::Word(_, progress) => Outcome::Well(progress),
+        Checked::Failed(e, progress) => Outcome::Failed(e, progress),
+        Checked::CutShort(cut, progress) => Outcome::CutShort(cut, progress),
     }
 }
 
@@ -260,9 +259,9 @@ pub fn failed_of(o: Outcome, error: BusError) -> Checked
     ensures { λ r. ⌜ r ≡ failed-of o error ⌝ }
 {
     match o {
-        Outcome::Well(bus) => Checked::Failed(error, bus),
-        Outcome::Failed(e, bus) => Checked::Failed(e, bus),
-        Outcome::CutShort(cut, bus) => Checked::CutShort(cut, bus),
+        Outcome::Well(progress) => Checked::Failed(error, progress),
+        Outcome::Failed(e, progress) => Checked::Failed(e, progress),
+        Outcome::CutShort(cut, progress) => Checked::CutShort(cut, progress),
     }
 }
 
@@ -271,26 +270,26 @@ pub fn word_of(o: Outcome, word: u32) -> Checked
     ensures { λ r. ⌜ r ≡ word-of o word ⌝ }
 {
     match o {
-        Outcome::Well(bus) => Checked::Word(word, bus),
-        Outcome::Failed(e, bus) => Checked::Failed(e, bus),
-        Outcome::CutShort(cut, bus) => Checked::CutShort(cut, bus),
+        Outcome::Well(progress) => Checked::Word(word, progress),
+        Outcome::Failed(e, progress) => Checked::Failed(e, progress),
+        Outcome::CutShort(cut, progress) => Checked::CutShort(cut, progress),
     }
 }
 
 // A read of any register but DR, for its own sake.
-pub fn get(readings: &[u32], log: &mut [u32], bus: Bus, code: u32) -> Outcome
+pub fn get(readings: &[u32], log: &mut [u32], progress: Progress, code: u32) -> Outcome
     requires { ⌜ (is-read code ≡ true) × (is-data code ≡ false) ⌝ }
-    ensures { λ r. ⌜ ((s : Setup) (rx : List ℕ) → Refines s (Step.get code ∷ []) (at (now (readings .entry)) (now (log .entry)) rx bus) (now (readings .entry)) (now (log .exit)) rx r) ⌝ }
+    ensures { λ r. ⌜ Does (Step.get code ∷ []) readings log progress r ⌝ }
 {
-    outcome_of(read(readings, log, bus, code))
+    outcome_of(read(readings, log, progress, code))
 }
 
 // A read of DR: its low byte is received.
-pub fn read_data(readings: &[u32], log: &mut [u32], rx: &mut [u8], bus: Bus) -> Outcome
-    requires { ⌜ bus .got ≤ bus .used ⌝ }
-    ensures { λ r. ⌜ ((s : Setup) → Refines s (Step.get 4 ∷ []) (at (now (readings .entry)) (now (log .entry)) (now (rx .entry)) bus) (now (readings .entry)) (now (log .exit)) (now (rx .exit)) r) ⌝ }
+pub fn read_data(readings: &[u32], log: &mut [u32], rx: &mut [u8], progress: Progress) -> Outcome
+    requires { ⌜ progress .got ≤ progress .used ⌝ }
+    ensures { λ r. ⌜ ((s : Setup) → Receives s (Step.get DR ∷ []) readings log rx progress r) ⌝ }
 {
-    let c = read(readings, log, bus, DR);
+    let c = read(readings, log, progress, DR);
     let Checked::Word(word, next) = c else {
         return outcome_of(c);
     };
@@ -298,7 +297,7 @@ pub fn read_data(readings: &[u32], log: &mut [u32], rx: &mut [u8], bus: Bus) -> 
     if got < rx.len() {
         rx[got] = (word % 256) as u8;
     }
-    Outcome::Well(Bus {
+    Outcome::Well(Progress {
         used: next.used,
         made: next.made,
         got: got + 1,
@@ -306,11 +305,17 @@ pub fn read_data(readings: &[u32], log: &mut [u32], rx: &mut [u8], bus: Bus) -> 
 }
 
 // Set in CR1: read it, then write it with only these bits altered.
-pub fn modify_cr1(readings: &[u32], log: &mut [u32], bus: Bus, on: Bits, off: Bits) -> Outcome
+pub fn modify_cr1(
+    readings: &[u32],
+    log: &mut [u32],
+    progress: Progress,
+    on: Bits,
+    off: Bits,
+) -> Outcome
     requires { ⌜ (on .0 < 65536) × (on .1 < 65536) ⌝ }
-    ensures { λ r. ⌜ ((s : Setup) (rx : List ℕ) → Refines s (Step.modify on off ∷ []) (at (now (readings .entry)) (now (log .entry)) rx bus) (now (readings .entry)) (now (log .exit)) rx r) ⌝ }
+    ensures { λ r. ⌜ Does (Step.modify on off ∷ []) readings log progress r ⌝ }
 {
-    let c = read(readings, log, bus, CR1);
+    let c = read(readings, log, progress, CR1);
     let Checked::Word(word, next) = c else {
         return outcome_of(c);
     };
@@ -325,10 +330,10 @@ fn clear_word(_error: BusError) -> u32
 }
 
 // Clears the SR1 flag of an error.
-pub fn clear_flag(log: &mut [u32], bus: Bus, error: BusError) -> Outcome
-    ensures { λ r. ⌜ ((rs rx : List ℕ) → Writes 15 (clear-word error) (at rs (now (log .entry)) rx bus) rs (now (log .exit)) rx r) ⌝ }
+pub fn clear_flag(log: &mut [u32], progress: Progress, error: BusError) -> Outcome
+    ensures { λ r. ⌜ Writes wSR1 (clear-word error) log progress r ⌝ }
 {
-    write(log, bus, W_SR1, clear_word(error))
+    write(log, progress, W_SR1, clear_word(error))
 }
 
 // The number that document 01 gives an ending.

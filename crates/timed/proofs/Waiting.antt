@@ -8,7 +8,7 @@ use mathlib.Core.List.{List, [], _∷_, _++_, append-nil}
 use lib.Dec.{leb}
 use Rattle.units.specs.declared.Setup.{Setup}
 use Rattle.registers.specs.declared.Awaited.{Awaited}
-use Rattle.registers.specs.declared.Bus.{Bus}
+use Rattle.registers.specs.declared.Progress.{Progress}
 use Rattle.registers.specs.declared.BusError.{BusError}
 use Rattle.registers.specs.declared.Checked.{Checked}
 use Rattle.registers.specs.declared.Flagged.{Flagged}
@@ -16,7 +16,7 @@ use Rattle.registers.specs.declared.Outcome.{Outcome}
 use Rattle.registers.specs.Access.{CYC, wSR1, is-read, is-data, clear-word}
 use Rattle.registers.specs.Machine.{Step, Handler, Access, access, next, handle, clear, since, polled-register, poll-error, poll-ready, after-poll}
 use Rattle.registers.specs.State.{State, After, Took, at, then, room, left, resume, read-one, read, write-one, write}
-use Rattle.registers.specs.Contract.{outcome, checked, outcome-of, handled, Reads, Writes, Reaches, Waits}
+use Rattle.registers.specs.Contract.{outcome, checked, outcome-of, handled, ReadsFrom, WritesFrom, Reaches, WaitsFrom}
 use Rattle.registers.proofs.Laws.{write-law}
 use Rattle.registers.proofs.Steps.{NoWord, here, rewritten, read-step, read-stops, waits-well, waits-last}
 use Rattle.timed.specs.Poll.{no-error, over, failed-poll}
@@ -87,9 +87,9 @@ module _ (s : Setup) (w : Awaited) (l : ℕ) (h : Handler) (t v : ℕ) where
   next-waits e n = next-polled s w l h t v n (over-is w v e n)
 
 -- a wait whose poll found an error: its flag cleared, then the handler
-pub wait-failed : {s : Setup} {h : Handler} {q : List Step} {st : State} (w : Awaited) (l t v : ℕ) {rs lg rx : List ℕ} {b : Bus}
+pub wait-failed : {s : Setup} {h : Handler} {q : List Step} {st : State} (w : Awaited) (l t v : ℕ) {rs lg rx : List ℕ} {b : Progress}
     → Reaches s q st (next s (Step.poll w l h t) v) (at rs lg rx b) → {a : BusError} → poll-error w v ≡ Flagged.Error a
-    → {lg′ : List ℕ} {o : Outcome} → Writes wSR1 (clear-word a) (at rs lg rx b) rs lg′ rx o → Waits s h q st rs lg′ rx (failed-poll o a)
+    → {lg′ : List ℕ} {o : Outcome} → WritesFrom wSR1 (clear-word a) (at rs lg rx b) rs lg′ rx o → WaitsFrom s h q st rs lg′ rx (failed-poll o a)
 wait-failed {s} {h} {q} {st} w l t v {rs} {lg} {rx} {b} g {a} n {lg′} {o} y =
     record { is = λ p. rewritten (next-failed s w l h t v n) g .is p ∙ write-law s wSR1 (clear-word a) (handle s h a ++ p) (at rs lg rx b) refl ∙ rw (← y .is) (go p o (y .is)) }
   where
@@ -101,13 +101,13 @@ wait-failed {s} {h} {q} {st} w l t v {rs} {lg} {rx} {b} g {a} n {lg′} {o} y =
 
 -- a poll's read
 pub poll-step : {s : Setup} {q : List Step} {st : State} {w : Awaited} {l : ℕ} {h : Handler} {t : ℕ} {st₁ : State} → Reaches s q st (Step.poll w l h t ∷ []) st₁
-    → {rs lg rx : List ℕ} {r : Checked} → Reads (polled-register w) st₁ rs lg rx r → {v : ℕ} {b : Bus} → r ≡ Checked.Word v b
+    → {rs lg rx : List ℕ} {r : Checked} → ReadsFrom (polled-register w) st₁ rs lg rx r → {v : ℕ} {b : Progress} → r ≡ Checked.Word v b
     → Reaches s q st (next s (Step.poll w l h t) v) (at rs lg rx b)
 poll-step {w = w} g x e = rewritten (append-nil _) (read-step g x refl (polled-read w) (polled-other w) e refl)
 
 -- a wait ends where a read has no word, and by its handler's steps
 pub wait-none : {s : Setup} {h : Handler} {q : List Step} {st : State} {i : Step} {q₁ : List Step} {st₁ : State} → Reaches s q st (i ∷ q₁) st₁
-    → {c : ℕ} {rs lg rx : List ℕ} {r : Checked} → Reads c st₁ rs lg rx r → access i ≡ Access.read c → is-read c ≡ true → NoWord r → Waits s h q st rs lg rx (outcome-of r)
+    → {c : ℕ} {rs lg rx : List ℕ} {r : Checked} → ReadsFrom c st₁ rs lg rx r → access i ≡ Access.read c → is-read c ≡ true → NoWord r → WaitsFrom s h q st rs lg rx (outcome-of r)
 wait-none {s} {h} {st₁ = st₁} g {c} {rs} {lg} {rx} {r} x a t n = record { is = λ p. read-stops g x a t n .is p ∙ go p r (x .is) }
   where
     go : (p : List Step) (r : Checked) → checked rs lg rx r ≡ read c st₁ → then (outcome rs lg rx (outcome-of r)) (resume s p) ≡ handled s h rs lg rx (outcome-of r) p
@@ -115,24 +115,24 @@ wait-none {s} {h} {st₁ = st₁} g {c} {rs} {lg} {rx} {r} x a t n = record { is
     go p (Checked.Failed e b) y = absurd (read-unfailed c st₁ y)
     go p (Checked.CutShort k b) y = refl
 
-pub ends-handled : {s : Setup} {h : Handler} {q : List Step} {st : State} {rs lg rx : List ℕ} {e : BusError} {b : Bus}
-    → Reaches s q st (handle s h e ++ []) (at rs lg rx b) → Waits s h q st rs lg rx (Outcome.Failed e b)
+pub ends-handled : {s : Setup} {h : Handler} {q : List Step} {st : State} {rs lg rx : List ℕ} {e : BusError} {b : Progress}
+    → Reaches s q st (handle s h e ++ []) (at rs lg rx b) → WaitsFrom s h q st rs lg rx (Outcome.Failed e b)
 ends-handled g = record { is = λ p. g .is p ∙ rw append-nil }
 
 -- a wait by its first CYC read and its first poll: no word; over at once; or the rest of it
-module _ {s : Setup} {w : Awaited} {l : ℕ} {h : Handler} {st : State} {rs lg rx : List ℕ} {r : Checked} (x : Reads CYC st rs lg rx r) {t : ℕ} {b : Bus} (e : r ≡ Checked.Word t b)
-    {lg′ : List ℕ} {r′ : Checked} (y : Reads (polled-register w) (at rs lg rx b) rs lg′ rx r′) where
+module _ {s : Setup} {w : Awaited} {l : ℕ} {h : Handler} {st : State} {rs lg rx : List ℕ} {r : Checked} (x : ReadsFrom CYC st rs lg rx r) {t : ℕ} {b : Progress} (e : r ≡ Checked.Word t b)
+    {lg′ : List ℕ} {r′ : Checked} (y : ReadsFrom (polled-register w) (at rs lg rx b) rs lg′ rx r′) where
   first-poll : Reaches s (Step.timed w l h ∷ []) st (Step.poll w l h t ∷ []) (at rs lg rx b)
   first-poll = read-step here x refl refl refl e (next-timed s w l h t)
 
-  pub wait-unread : NoWord r′ → Waits s h (Step.timed w l h ∷ []) st rs lg′ rx (outcome-of r′)
+  pub wait-unread : NoWord r′ → WaitsFrom s h (Step.timed w l h ∷ []) st rs lg′ rx (outcome-of r′)
   wait-unread n = wait-none first-poll y refl (polled-read w) n
 
-  module _ {v : ℕ} {b′ : Bus} (f : r′ ≡ Checked.Word v b′) where
-    pub wait-at-once : over w v ≡ true → Waits s h (Step.timed w l h ∷ []) st rs lg′ rx (Outcome.Well b′)
+  module _ {v : ℕ} {b′ : Progress} (f : r′ ≡ Checked.Word v b′) where
+    pub wait-at-once : over w v ≡ true → WaitsFrom s h (Step.timed w l h ∷ []) st rs lg′ rx (Outcome.Well b′)
     wait-at-once o = waits-well (rewritten (next-over s w l h t v o) (poll-step first-poll y f))
 
-    pub wait-longer : {lg″ : List ℕ} {o : Outcome} → Waits s h (next s (Step.poll w l h t) v) (at rs lg′ rx b′) rs lg″ rx o → Waits s h (Step.timed w l h ∷ []) st rs lg″ rx o
+    pub wait-longer : {lg″ : List ℕ} {o : Outcome} → WaitsFrom s h (next s (Step.poll w l h t) v) (at rs lg′ rx b′) rs lg″ rx o → WaitsFrom s h (Step.timed w l h ∷ []) st rs lg″ rx o
     wait-longer z = waits-last (poll-step first-poll y f) z
 
 -- the wrapped difference

@@ -1,10 +1,10 @@
 // Timed waits, named as the macros of the Rust's src/i2c/blocking.rs: one poll, and polls until the time is out.
 use registers::Awaited;
-use registers::Bus;
 use registers::BusError;
 use registers::Checked;
 use registers::Flagged;
 use registers::Outcome;
+use registers::Progress;
 use registers::Source;
 use registers::clear_flag;
 use registers::has;
@@ -13,14 +13,12 @@ use registers::read;
 use units::Cycles;
 ghost use mathlib.Core.Path.{_≡_};
 ghost use mathlib.Core.Bool.{true};
-ghost use mathlib.Core.List.{List, [], _∷_};
-ghost use Prim.Native.Nat.{ℕ};
+ghost use mathlib.Core.List.{[], _∷_};
 ghost use lib.Dec.{leb};
 ghost use Rattle.units.specs.declared.Setup.{Setup};
 ghost use Rattle.registers.specs.declared.Awaited.{Awaited};
 ghost use Rattle.registers.specs.declared.Source.{Source};
 ghost use Rattle.registers.specs.Machine.{Step, Handler, next, poll-word, poll-error, polled-register, since};
-ghost use Rattle.registers.specs.State.{at};
 ghost use Rattle.registers.specs.Contract.{Waits};
 ghost use Rattle.timed.specs.Poll.{waited-flag, waited, over, failed-poll};
 
@@ -92,11 +90,11 @@ fn polled_register(awaited: Awaited) -> u32
     }
 }
 
-// Whether the time from start to now reaches the limit. The counter wraps.
-fn timed_out(start: u32, now: u32, limit: Cycles) -> bool
-    ensures { λ r. ⌜ r ≡ leb (limit .0) (since start «now») ⌝ }
+// Whether the time from start to this reading of the counter reaches the limit. The counter wraps.
+fn timed_out(start: u32, cycles: u32, limit: Cycles) -> bool
+    ensures { λ r. ⌜ r ≡ leb (limit .0) (since start cycles) ⌝ }
 {
-    limit.0 <= std::num::wrapping_sub_u32(now, start) as u64
+    limit.0 <= std::num::wrapping_sub_u32(cycles, start) as u64
 }
 
 // A poll whose error flag was cleared with this outcome.
@@ -104,9 +102,9 @@ fn failed_poll(o: Outcome, error: BusError) -> Outcome
     ensures { λ r. ⌜ r ≡ failed-poll o error ⌝ }
 {
     match o {
-        Outcome::Well(bus) => Outcome::Failed(error, bus),
-        Outcome::Failed(e, bus) => Outcome::Failed(e, bus),
-        Outcome::CutShort(cut, bus) => Outcome::CutShort(cut, bus),
+        Outcome::Well(progress) => Outcome::Failed(error, progress),
+        Outcome::Failed(e, progress) => Outcome::Failed(e, progress),
+        Outcome::CutShort(cut, progress) => Outcome::CutShort(cut, progress),
     }
 }
 
@@ -114,23 +112,23 @@ fn failed_poll(o: Outcome, error: BusError) -> Outcome
 fn busy_wait(
     readings: &[u32],
     log: &mut [u32],
-    bus: Bus,
+    progress: Progress,
     word: u32,
     awaited: Awaited,
     start: u32,
     limit: Cycles,
 ) -> Outcome
     requires { ⌜ waited awaited ≡ true ⌝ }
-    ensures { λ r. ⌜ ((s : Setup) (h : Handler) (rx : List ℕ) → Waits s h (next s (Step.poll awaited (limit .0) h start) word) (at (now (readings .entry)) (now (log .entry)) rx bus) (now (readings .entry)) (now (log .exit)) rx r) ⌝ }
+    ensures { λ r. ⌜ ((s : Setup) (h : Handler) → Waits s h (next s (Step.poll awaited (limit .0) h start) word) readings log progress r) ⌝ }
 {
-    let mut bus = bus;
+    let mut progress = progress;
     let mut word = word;
     while !wait_over(word, awaited) {
         let flagged = poll_error(word, awaited);
         if let Flagged::Error(error) = flagged {
-            return failed_poll(clear_flag(log, bus, error), error);
+            return failed_poll(clear_flag(log, progress, error), error);
         }
-        let c = read(readings, log, bus, registers::CYC);
+        let c = read(readings, log, progress, registers::CYC);
         let Checked::Word(cycles, later) = c else {
             return outcome_of(c);
         };
@@ -141,40 +139,40 @@ fn busy_wait(
         let Checked::Word(again, next) = d else {
             return outcome_of(d);
         };
-        bus = next;
+        progress = next;
         word = again;
     }
-    Outcome::Well(bus)
+    Outcome::Well(progress)
 }
 
 // A timed wait for a flag of SR1. Its error is left to the caller.
 pub fn busy_wait_flag(
     readings: &[u32],
     log: &mut [u32],
-    bus: Bus,
+    progress: Progress,
     flag: u32,
     source: Source,
     limit: Cycles,
 ) -> Outcome
     requires { ⌜ waited-flag flag ≡ true ⌝ }
-    ensures { λ r. ⌜ ((s : Setup) (h : Handler) (rx : List ℕ) → Waits s h (Step.timed (Awaited.Flag flag source) (limit .0) h ∷ []) (at (now (readings .entry)) (now (log .entry)) rx bus) (now (readings .entry)) (now (log .exit)) rx r) ⌝ }
+    ensures { λ r. ⌜ ((s : Setup) (h : Handler) → Waits s h (Step.timed (Awaited.Flag flag source) (limit .0) h ∷ []) readings log progress r) ⌝ }
 {
-    let c = read(readings, log, bus, registers::CYC);
-    let Checked::Word(start, bus1) = c else {
+    let c = read(readings, log, progress, registers::CYC);
+    let Checked::Word(start, progress1) = c else {
         return outcome_of(c);
     };
-    let d = read(readings, log, bus1, registers::SR1);
-    let Checked::Word(sr1, bus2) = d else {
+    let d = read(readings, log, progress1, registers::SR1);
+    let Checked::Word(sr1, progress2) = d else {
         return outcome_of(d);
     };
     if wait_for_flag(sr1, flag) {
-        return Outcome::Well(bus2);
+        return Outcome::Well(progress2);
     }
-    // A copy, so that bus2 is never in memory where the wait is over at once.
-    let waiting = Bus {
-        used: bus2.used,
-        made: bus2.made,
-        got: bus2.got,
+    // A copy, so that progress2 is never in memory where the wait is over at once.
+    let waiting = Progress {
+        used: progress2.used,
+        made: progress2.made,
+        got: progress2.got,
     };
     let awaited = Awaited::Flag(flag, source);
     let o = busy_wait(readings, log, waiting, sr1, awaited, start, limit);
@@ -182,25 +180,30 @@ pub fn busy_wait_flag(
 }
 
 // A timed wait for STOP to clear in CR1.
-pub fn busy_wait_stop(readings: &[u32], log: &mut [u32], bus: Bus, limit: Cycles) -> Outcome
-    ensures { λ r. ⌜ ((s : Setup) (h : Handler) (rx : List ℕ) → Waits s h (Step.timed Awaited.Stop (limit .0) h ∷ []) (at (now (readings .entry)) (now (log .entry)) rx bus) (now (readings .entry)) (now (log .exit)) rx r) ⌝ }
+pub fn busy_wait_stop(
+    readings: &[u32],
+    log: &mut [u32],
+    progress: Progress,
+    limit: Cycles,
+) -> Outcome
+    ensures { λ r. ⌜ ((s : Setup) (h : Handler) → Waits s h (Step.timed Awaited.Stop (limit .0) h ∷ []) readings log progress r) ⌝ }
 {
-    let c = read(readings, log, bus, registers::CYC);
-    let Checked::Word(start, bus1) = c else {
+    let c = read(readings, log, progress, registers::CYC);
+    let Checked::Word(start, progress1) = c else {
         return outcome_of(c);
     };
-    let d = read(readings, log, bus1, registers::CR1);
-    let Checked::Word(cr1, bus2) = d else {
+    let d = read(readings, log, progress1, registers::CR1);
+    let Checked::Word(cr1, progress2) = d else {
         return outcome_of(d);
     };
     if wait_for_stop(cr1) {
-        return Outcome::Well(bus2);
+        return Outcome::Well(progress2);
     }
     // A copy, as for a flag.
-    let waiting = Bus {
-        used: bus2.used,
-        made: bus2.made,
-        got: bus2.got,
+    let waiting = Progress {
+        used: progress2.used,
+        made: progress2.made,
+        got: progress2.got,
     };
     let o = busy_wait(readings, log, waiting, cr1, Awaited::Stop, start, limit);
     o

@@ -25,12 +25,12 @@ whole : (s : Setup) (n : ℕ) → receive-bytes s n ≡ receive-bytes s (n - 0)
 whole s n = let e : n ≡ n - 0 = omega arith in ap (receive-bytes s) e
 
 abbrev Inv-loop : tie.InvT-loop
-Inv-loop readings log₀ rx₀ setup count bus₀ i₀ log rx bus i =
-    Reaches setup (receive-bytes setup count) (at readings log₀ rx₀ bus₀) (receive-bytes setup (count - i)) (at readings log rx bus)
-    × (length log ≡ length log₀) × (length rx ≡ length rx₀) × (bus .got ≤ bus .used)
+Inv-loop readings log₀ rx₀ setup count progress₀ i₀ log rx progress i =
+    Reaches setup (receive-bytes setup count) (at readings log₀ rx₀ progress₀) (receive-bytes setup (count - i)) (at readings log rx progress)
+    × (length log ≡ length log₀) × (length rx ≡ length rx₀) × (progress .got ≤ progress .used)
 
 abbrev μ-loop : tie.MeasureT-loop
-μ-loop readings log₀ rx₀ setup count bus₀ i₀ log rx bus i = count - i
+μ-loop readings log₀ rx₀ setup count progress₀ i₀ log rx progress i = count - i
 
 loop-holds : tie.Need-loop-holds Inv-loop μ-loop
 loop-holds c = (rewritten (whole _ _) here, refl, refl, c .before .before .before .pre)

@@ -5,14 +5,14 @@ use mathlib.Core.List.{List, [], _∷_, _++_, append-nil}
 use lib.ListN.{length}
 use Rattle.units.specs.declared.Setup.{Setup}
 use Rattle.registers.specs.declared.Awaited.{Awaited}
-use Rattle.registers.specs.declared.Bus.{Bus}
+use Rattle.registers.specs.declared.Progress.{Progress}
 use Rattle.registers.specs.declared.BusError.{BusError}
 use Rattle.registers.specs.declared.Outcome.{Outcome}
 use Rattle.registers.specs.declared.Source.{Source}
 use Rattle.registers.specs.Word.{one, START, SB}
 use Rattle.registers.specs.Machine.{Step, Handler, handle, reset, send-start, start, start-again}
 use Rattle.registers.specs.State.{State, at}
-use Rattle.registers.specs.Contract.{Refines, Reaches, Waits}
+use Rattle.registers.specs.Contract.{Refines, Reaches, WaitsFrom}
 use Rattle.registers.proofs.Steps.{here, rewritten, call-step, call-stops, ends-well, ends-failed, wait-fails, wait-last}
 use borrow.Author.Needs.{needs}
 use Rattle.blocking.proofs.send_start_and_wait.Statement.{statement}
@@ -46,19 +46,19 @@ try-first : (s : Setup) (n : ℕ) → 0 < n → {q : List Step} {st st₁ : Stat
 try-first s n h g = rewritten (start-more s n h) g
 
 try-fails : {s : Setup} {n : ℕ} {q : List Step} {st st₁ : State} → Reaches s q st (send-start (one START) ++ start-wait s (Handler.resets n)) st₁
-    → {rs lg rx : List ℕ} {o : Outcome} → Refines s (send-start (one START)) st₁ rs lg rx o → {b : Bus} → o ≡ Outcome.Well b
-    → {rs′ lg′ rx′ : List ℕ} {o′ : Outcome} → Waits s (Handler.resets n) (start-wait s (Handler.resets n)) (at rs lg rx b) rs′ lg′ rx′ o′
-    → {e : BusError} {b′ : Bus} → o′ ≡ Outcome.Failed e b′ → Reaches s q st (reset s ++ start-again s n e) (at rs′ lg′ rx′ b′)
+    → {rs lg rx : List ℕ} {o : Outcome} → Refines s (send-start (one START)) st₁ rs lg rx o → {b : Progress} → o ≡ Outcome.Well b
+    → {rs′ lg′ rx′ : List ℕ} {o′ : Outcome} → WaitsFrom s (Handler.resets n) (start-wait s (Handler.resets n)) (at rs lg rx b) rs′ lg′ rx′ o′
+    → {e : BusError} {b′ : Progress} → o′ ≡ Outcome.Failed e b′ → Reaches s q st (reset s ++ start-again s n e) (at rs′ lg′ rx′ b′)
 unfolding handle
 try-fails g x k y l = rewritten (append-nil _) (wait-fails y [] (call-step x _ g k) l)
 
 abbrev Inv-loop : tie.InvT-loop
-Inv-loop readings log₀ setup limit bus₀ retries-left₀ log bus retries-left =
-    ((rx : List ℕ) → Reaches setup (start setup retries-left₀) (at readings log₀ rx bus₀) (start setup retries-left) (at readings log rx bus))
+Inv-loop readings log₀ setup limit progress₀ retries-left₀ log progress retries-left =
+    ((rx : List ℕ) → Reaches setup (start setup retries-left₀) (at readings log₀ rx progress₀) (start setup retries-left) (at readings log rx progress))
     × (length log ≡ length log₀)
 
 abbrev μ-loop : tie.MeasureT-loop
-μ-loop readings log₀ setup limit bus₀ retries-left₀ log bus retries-left = retries-left
+μ-loop readings log₀ setup limit progress₀ retries-left₀ log progress retries-left = retries-left
 
 loop-holds : tie.Need-loop-holds Inv-loop μ-loop
 loop-holds c = ((λ rx. here), refl)

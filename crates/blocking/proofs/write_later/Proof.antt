@@ -33,13 +33,13 @@ no-byte s bs i h = rw (drop-of-length-le bs h)
 
 -- the loop knows only the limit, so its steps are those of any settings that have it
 abbrev Inv-loop : tie.InvT-loop
-Inv-loop readings log₀ bytes limit bus₀ i₀ log bus i =
+Inv-loop readings log₀ bytes limit progress₀ i₀ log progress i =
     ((s : Setup) (rx : List ℕ) → s .«data_limit» ≡ limit
-    → Reaches s (later-bytes s bytes) (at readings log₀ rx bus₀) (later-bytes s (drop i bytes)) (at readings log rx bus))
+    → Reaches s (later-bytes s bytes) (at readings log₀ rx progress₀) (later-bytes s (drop i bytes)) (at readings log rx progress))
     × (length log ≡ length log₀) × (i ≤ length bytes)
 
 abbrev μ-loop : tie.MeasureT-loop
-μ-loop readings log₀ bytes limit bus₀ i₀ log bus i = length bytes - i
+μ-loop readings log₀ bytes limit progress₀ i₀ log progress i = length bytes - i
 
 loop-holds : tie.Need-loop-holds Inv-loop μ-loop
 loop-holds c = ((λ s rx e. here), refl, omega arith)

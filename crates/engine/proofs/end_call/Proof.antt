@@ -1,6 +1,6 @@
 use Rattle.registers.proofs.Steps.{here, ends-well}
-use Rattle.engine.specs.Calls.{end-steps}
-use Rattle.engine.proofs.CallLaws.{is-polling-kind, is-blocking-kind}
+use Rattle.engine.specs.Whole.{end-steps}
+use Rattle.engine.proofs.CallLaws.{polling-call, blocking-call}
 use mathlib.Core.Path.{sym, _∙_}
 use borrow.Author.Needs.{needs}
 use Rattle.engine.proofs.end_call.Statement.{statement}
@@ -8,11 +8,11 @@ use Rattle.engine.proofs.end_call.Tie as tie
 
 returns : tie.Need-returns
 unfolding end-steps
-returns c rx = rw (is-polling-kind _ (sym (c .before .is-polling .ensures) ∙ c .if1 .taken)) (ends-well here)
+returns c rx = rw (polling-call _ (sym (c .before .is-polling .ensures) ∙ c .if1 .taken)) (ends-well here)
 
 returns-2 : tie.Need-returns-2
 unfolding end-steps
-returns-2 c rx = rw (is-blocking-kind _ (sym (c .before .before .before .before .before .is-polling .ensures) ∙ c .before .before .before .before .if1 .left)) (c .before .before .close-after .ensures rx)
+returns-2 c rx = rw (blocking-call _ (sym (c .before .before .before .before .before .is-polling .ensures) ∙ c .before .before .before .before .if1 .left)) (c .before .before .close-after .ensures rx)
 
 pub end-call-spec : {M : Type 1} → statement M
 end-call-spec =

@@ -1,4 +1,4 @@
-use Rattle.engine.specs.Calls.{empty}
+use Rattle.engine.specs.Whole.{empty}
 use Rattle.buslist.proofs.Accept.{operation-write}
 use Rattle.buslist.specs.Meaning.{Operation, operation-of}
 use borrow.Author.Tests.{ne-eqb}

@@ -1,5 +1,5 @@
-use Rattle.engine.proofs.CallLaws.{is-polling-kind, is-blocking-kind}
-use Rattle.engine.specs.Calls.{empty, moved}
+use Rattle.engine.proofs.CallLaws.{polling-call, blocking-call}
+use Rattle.engine.specs.Whole.{empty, moved}
 use Rattle.blocking.specs.Blocking.{done-last}
 use Rattle.i2c.specs.Polling.{direction}
 use Rattle.i2c.specs.declared.Previous.{Previous}
@@ -27,15 +27,15 @@ not-passed p (Operation.read (suc n)) e = refl
 
 returns : tie.Need-returns
 unfolding moved
-returns c = rw (is-polling-kind _ (sym (c .before .before .is-polling .ensures) ∙ c .before .if1 .taken)) (c .direction .ensures _)
+returns c = rw (polling-call _ (sym (c .before .before .is-polling .ensures) ∙ c .before .if1 .taken)) (c .direction .ensures _)
 
 returns-2 : tie.Need-returns-2
 unfolding moved
-returns-2 c = let a = c .before .before .before .before .before .args in rw (is-blocking-kind _ (sym (c .before .before .before .is-polling .ensures) ∙ c .before .before .if1 .left)) (sym (passed-over (a .previous) (operation-of (a .list .now) (a .o)) (sym (c .before .is-empty .ensures) ∙ c .if2 .taken)))
+returns-2 c = let a = c .before .before .before .before .before .args in rw (blocking-call _ (sym (c .before .before .before .is-polling .ensures) ∙ c .before .before .if1 .left)) (sym (passed-over (a .previous) (operation-of (a .list .now) (a .o)) (sym (c .before .is-empty .ensures) ∙ c .if2 .taken)))
 
 returns-3 : tie.Need-returns-3
 unfolding moved
-returns-3 c = let a = c .before .before .before .before .before .before .args in rw (is-blocking-kind _ (sym (c .before .before .before .before .is-polling .ensures) ∙ c .before .before .before .if1 .left)) (c .direction2 .ensures (a .list .now) ∙ sym (not-passed (a .previous) (operation-of (a .list .now) (a .o)) (sym (c .before .before .is-empty .ensures) ∙ c .before .if2 .left)))
+returns-3 c = let a = c .before .before .before .before .before .before .args in rw (blocking-call _ (sym (c .before .before .before .before .is-polling .ensures) ∙ c .before .before .before .if1 .left)) (c .direction2 .ensures (a .list .now) ∙ sym (not-passed (a .previous) (operation-of (a .list .now) (a .o)) (sym (c .before .before .is-empty .ensures) ∙ c .before .if2 .left)))
 
 pub moved-spec : {M : Type 1} → statement M
 moved-spec =

@@ -19,24 +19,24 @@ use Rattle.engine.proofs.run_calls.Statement.{statement}
 use Rattle.engine.proofs.run_calls.Tie as tie
 
 abbrev Inv-loop : tie.InvT-loop
-Inv-loop list readings rx₀ log₀ setup calls call-start operation-start bus₀ k call end j₀ previous₀ rx log bus j previous =
+Inv-loop list readings rx₀ log₀ setup calls call-start operation-start progress₀ k call end j₀ previous₀ rx log progress j previous =
     Reaches setup
     (operations-steps setup (engine-of (call .kind)) (early (call .kind)) (call .address) previous₀ (map (operation-of list) (entries (operation-at list) j₀ (end - j₀))))
-    (at readings log₀ rx₀ bus₀)
+    (at readings log₀ rx₀ progress₀)
     (operations-steps setup (engine-of (call .kind)) (early (call .kind)) (call .address) previous (map (operation-of list) (entries (operation-at list) j (end - j))))
-    (at readings log rx bus)
-    × (length rx ≡ length rx₀) × (length log ≡ length log₀) × (bus .got ≤ bus .used)
+    (at readings log rx progress)
+    × (length rx ≡ length rx₀) × (length log ≡ length log₀) × (progress .got ≤ progress .used)
 
 abbrev μ-loop : tie.MeasureT-loop
-μ-loop list readings rx₀ log₀ setup calls call-start operation-start bus₀ k call end j₀ previous₀ rx log bus j previous = end - j
+μ-loop list readings rx₀ log₀ setup calls call-start operation-start progress₀ k call end j₀ previous₀ rx log progress j previous = end - j
 
 abbrev Inv-calls : tie.InvT-calls
-Inv-calls list readings rx₀ log₀ setup calls call-start operation-start bus₀ outcome₀ k₀ rx log bus outcome k =
-    Left setup (map (steps-of setup) (calls-of list)) (at readings log₀ rx₀ bus₀) k (calls-from setup list k calls) (at readings log rx bus)
-    × (length rx ≡ length rx₀) × (length log ≡ length log₀) × (bus .got ≤ bus .used) × (outcome ≡ Outcome.Well bus)
+Inv-calls list readings rx₀ log₀ setup calls call-start operation-start progress₀ outcome₀ k₀ rx log progress outcome k =
+    Left setup (map (steps-of setup) (calls-of list)) (at readings log₀ rx₀ progress₀) k (calls-from setup list k calls) (at readings log rx progress)
+    × (length rx ≡ length rx₀) × (length log ≡ length log₀) × (progress .got ≤ progress .used) × (outcome ≡ Outcome.Well progress)
 
 abbrev μ-calls : tie.MeasureT-calls
-μ-calls list readings rx₀ log₀ setup calls call-start operation-start bus₀ outcome₀ k₀ rx log bus outcome k = calls - k
+μ-calls list readings rx₀ log₀ setup calls call-start operation-start progress₀ outcome₀ k₀ rx log progress outcome k = calls - k
 
 call-count-requires : tie.Need-call-count-requires Inv-loop μ-loop Inv-calls μ-calls
 call-count-requires c κs = search needs

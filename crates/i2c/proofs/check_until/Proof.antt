@@ -15,12 +15,12 @@ use Rattle.i2c.proofs.check_until.Statement.{statement}
 use Rattle.i2c.proofs.check_until.Tie as tie
 
 abbrev Inv-loop : tie.InvT-loop
-Inv-loop readings log₀ flag source bus₀ log bus =
-    ((s : Setup) (rx : List ℕ) → Reaches s (Step.check flag source ∷ []) (at readings log₀ rx bus₀) (Step.check flag source ∷ []) (at readings log rx bus))
+Inv-loop readings log₀ flag source progress₀ log progress =
+    ((s : Setup) (rx : List ℕ) → Reaches s (Step.check flag source ∷ []) (at readings log₀ rx progress₀) (Step.check flag source ∷ []) (at readings log rx progress))
     × (length log ≡ length log₀)
 
 abbrev μ-loop : tie.MeasureT-loop
-μ-loop readings log₀ flag source bus₀ log bus = entries-in (length log) - bus .made
+μ-loop readings log₀ flag source progress₀ log progress = entries-in (length log) - progress .made
 
 loop-holds : tie.Need-loop-holds Inv-loop μ-loop
 loop-holds c = ((λ s rx. here), refl)

@@ -25,14 +25,14 @@ unfolding read-bytes
 no-byte n i h = let e : n - i ≡ zero = omega arith in rw e
 
 abbrev Inv-loop : tie.InvT-loop
-Inv-loop readings log₀ rx₀ count bus₀ i₀ log rx bus i =
-    ((s : Setup) → Reaches s (read-bytes count) (at readings log₀ rx₀ bus₀) (read-bytes (count - i)) (at readings log rx bus))
+Inv-loop readings log₀ rx₀ count progress₀ i₀ log rx progress i =
+    ((s : Setup) → Reaches s (read-bytes count) (at readings log₀ rx₀ progress₀) (read-bytes (count - i)) (at readings log rx progress))
     × (length log ≡ length log₀)
     × (length rx ≡ length rx₀)
-    × (bus .got ≤ bus .used)
+    × (progress .got ≤ progress .used)
 
 abbrev μ-loop : tie.MeasureT-loop
-μ-loop readings log₀ rx₀ count bus₀ i₀ log rx bus i = count - i
+μ-loop readings log₀ rx₀ count progress₀ i₀ log rx progress i = count - i
 
 loop-holds : tie.Need-loop-holds Inv-loop μ-loop
 loop-holds c = ((λ s. rewritten (all-bytes _) here), refl, refl, c .before .before .before .pre)

@@ -10,10 +10,10 @@ use Rattle.i2c.proofs.until_stop_clear.Statement.{statement}
 use Rattle.i2c.proofs.until_stop_clear.Tie as tie
 
 abbrev Inv-loop : tie.InvT-loop
-Inv-loop readings log₀ bus₀ log bus = Waiting Step.stop-clear readings log₀ bus₀ log bus
+Inv-loop readings log₀ progress₀ log progress = Waiting Step.stop-clear readings log₀ progress₀ log progress
 
 abbrev μ-loop : tie.MeasureT-loop
-μ-loop readings log₀ bus₀ log bus = fitting log bus
+μ-loop readings log₀ progress₀ log progress = fitting log progress
 
 loop-holds : tie.Need-loop-holds Inv-loop μ-loop
 loop-holds c = ((λ s rx. here), refl)

@@ -24,13 +24,13 @@ unfolding write-bytes
 no-byte bs i h = rw (drop-of-length-le bs h)
 
 abbrev Inv-loop : tie.InvT-loop
-Inv-loop readings log₀ bytes bus₀ i₀ log bus i =
-    ((s : Setup) (rx : List ℕ) → Reaches s (write-bytes bytes) (at readings log₀ rx bus₀) (write-bytes (drop i bytes)) (at readings log rx bus))
+Inv-loop readings log₀ bytes progress₀ i₀ log progress i =
+    ((s : Setup) (rx : List ℕ) → Reaches s (write-bytes bytes) (at readings log₀ rx progress₀) (write-bytes (drop i bytes)) (at readings log rx progress))
     × (length log ≡ length log₀)
     × (i ≤ length bytes)
 
 abbrev μ-loop : tie.MeasureT-loop
-μ-loop readings log₀ bytes bus₀ i₀ log bus i = length bytes - i
+μ-loop readings log₀ bytes progress₀ i₀ log progress i = length bytes - i
 
 loop-holds : tie.Need-loop-holds Inv-loop μ-loop
 loop-holds c = ((λ s rx. here), refl, omega arith)

@@ -19,13 +19,13 @@ writes false true a p bytes e = rw e
 writes false false a p bytes e = rw e
 
 returns : tie.Need-returns
-returns c s rx early = call-stops (c .before .before .before .turn-write .ensures s rx) _ (rewritten (writes early _ _ _ _ refl) here) (c .match .keys2)
+returns c early s rx = call-stops (c .before .before .before .turn-write .ensures s rx) _ (rewritten (writes early _ _ _ _ refl) here) (c .match .keys2)
 
 returns-2 : tie.Need-returns-2
-returns-2 c s rx early = call-last (call-step (c .before .before .before .before .before .before .before .before .before .before .turn-write .ensures s rx) _ (rewritten (writes early _ _ _ _ (c .before .before .before .before .if1 .taken)) here) (c .before .before .before .before .before .before .a .given .1)) (c .before .before .write-wo-prepare .ensures s rx)
+returns-2 c early s rx = call-last (call-step (c .before .before .before .before .before .before .before .before .before .before .turn-write .ensures s rx) _ (rewritten (writes early _ _ _ _ (c .before .before .before .before .if1 .taken)) here) (c .before .before .before .before .before .before .a .given .1)) (c .before .before .write-wo-prepare .ensures s rx)
 
 returns-3 : tie.Need-returns-3
-returns-3 c s rx early = call-last (call-step (c .before .before .before .before .before .before .before .before .before .before .turn-write .ensures s rx) _ (rewritten (writes early _ _ _ _ (c .before .before .before .before .if1 .left)) here) (c .before .before .before .before .before .before .a .given .1)) (c .before .before .write-bytes .ensures s rx)
+returns-3 c early s rx = call-last (call-step (c .before .before .before .before .before .before .before .before .before .before .turn-write .ensures s rx) _ (rewritten (writes early _ _ _ _ (c .before .before .before .before .if1 .left)) here) (c .before .before .before .before .before .before .a .given .1)) (c .before .before .write-bytes .ensures s rx)
 
 pub write-operation-spec : {M : Type 1} → statement M
 write-operation-spec =

@@ -16,13 +16,13 @@ use Rattle.timed.proofs.busy_wait.Tie as tie
 
 -- the loop comes back to what a poll makes of the word that it read
 abbrev Inv-loop : tie.InvT-loop
-Inv-loop readings log₀ first awaited start limit bus₀ word₀ log bus word =
+Inv-loop readings log₀ first awaited start limit progress₀ word₀ log progress word =
     ((s : Setup) (h : Handler) (rx : List ℕ)
-    → Reaches s (next s (Step.poll awaited (limit .0) h start) word₀) (at readings log₀ rx bus₀) (next s (Step.poll awaited (limit .0) h start) word) (at readings log rx bus))
+    → Reaches s (next s (Step.poll awaited (limit .0) h start) word₀) (at readings log₀ rx progress₀) (next s (Step.poll awaited (limit .0) h start) word) (at readings log rx progress))
     × (length log ≡ length log₀)
 
 abbrev μ-loop : tie.MeasureT-loop
-μ-loop readings log₀ first awaited start limit bus₀ word₀ log bus word = fitting log bus
+μ-loop readings log₀ first awaited start limit progress₀ word₀ log progress word = fitting log progress
 
 loop-holds : tie.Need-loop-holds Inv-loop μ-loop
 loop-holds c = ((λ s h rx. here), refl)
