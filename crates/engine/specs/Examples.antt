@@ -88,9 +88,9 @@ pub record Table : Type 0 where
   pub p7-start : refusal (with-timeouts 59652324 59652323 59652323) 0 ≡ 23
   pub p7-address : refusal (with-timeouts 59652323 59652324 59652323) 0 ≡ 23
   pub p7-data : refusal (with-timeouts 59652323 59652323 59652324) 0 ≡ 23
-  -- start 4,294,967,290, now 4: limit 10 out, 11 not
-  pub p8-out : (s : Setup) (w : Awaited) → next s (Step.late w 10 Handler.ends 4294967290) 4 ≡ Step.fail BusError.Timeout ∷ []
-  pub p8-in : (s : Setup) (w : Awaited) → next s (Step.late w 11 Handler.ends 4294967290) 4 ≡ Step.poll w 11 Handler.ends 4294967290 ∷ []
+  -- start 4,294,967,290, now 4: limit 10 out, 11 not: every timed wait, whatever it does with an error
+  pub p8-out : (s : Setup) (w : Awaited) (h : Handler) → next s (Step.late w 10 h 4294967290) 4 ≡ handle s h BusError.Timeout
+  pub p8-in : (s : Setup) (w : Awaited) (h : Handler) → next s (Step.late w 11 h 4294967290) 4 ≡ Step.poll w 11 h 4294967290 ∷ []
   -- SR1 0C00 hex: polling Overrun, blocking NoAcknowledge
   pub p9-polling : (n : Source) → check-word n 0x0c00 ≡ Flagged.Error BusError.Overrun
   pub p9-blocking : (n : Source) → poll-word n 0x0c00 ≡ Flagged.Error (BusError.NoAcknowledge n)
@@ -123,8 +123,8 @@ table =
       p7-start = refl;
       p7-address = refl;
       p7-data = refl;
-      p8-out = λ s w. refl;
-      p8-in = λ s w. refl;
+      p8-out = λ s w h. refl;
+      p8-in = λ s w h. refl;
       p9-polling = λ n. refl;
       p9-blocking = λ n. refl;
       p10 = refl;
