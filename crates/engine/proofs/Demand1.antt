@@ -39,7 +39,7 @@ number-known (Ending.failed BusError.Bus) = refl
 number-known (Ending.failed BusError.Crc) = refl
 number-known (Ending.failed BusError.ArbitrationLoss) = refl
 number-known (Ending.cut-short Cut.NoReadings) = refl
-number-known (Ending.cut-short Cut.NoRecord) = refl
+number-known (Ending.cut-short (Cut.NoRecord w)) = refl
 
 -- the first cause is one of the causes, or 0
 all-known : List Cause → Bool

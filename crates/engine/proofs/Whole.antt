@@ -37,7 +37,7 @@ answer-well (failed BusError.Bus) h = omega arith
 answer-well (failed BusError.Crc) h = omega arith
 answer-well (failed BusError.ArbitrationLoss) h = omega arith
 answer-well (cut-short Cut.NoReadings) h = omega arith
-answer-well (cut-short Cut.NoRecord) h = omega arith
+answer-well (cut-short (Cut.NoRecord w)) h = omega arith
 
 -- with no room for an access no call ends well
 not-full : (a : Access) → Well (no-room a .ending) → ⊥
