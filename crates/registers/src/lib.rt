@@ -144,6 +144,9 @@ pub enum Awaited {
 // Up to two bits of a word, by weight; 0 is no bit.
 pub struct Bits(pub u32, pub u32);
 
+// The words of a record entry.
+pub const ENTRY_WORDS: usize = 2;
+
 // A record entry.
 pub struct Entry {
     pub code: u32,
@@ -198,7 +201,7 @@ fn altered(word: u32, on: Bits, off: Bits) -> u32
 fn full(log: &[u32], progress: Progress) -> bool
     ensures { λ r. ⌜ r ≡ leb (entries-in (length (now (log .entry)))) (progress .made) ⌝ }
 {
-    log.len() / 2 <= progress.made
+    log.len() / ENTRY_WORDS <= progress.made
 }
 
 // Entry number k of the record.
@@ -206,8 +209,8 @@ fn put_entry(log: &mut [u32], k: usize, entry: Entry)
     requires { ⌜ k < entries-in (length (now log)) ⌝ }
     ensures { λ _. ⌜ now (log .exit) ≡ store (now (log .entry)) k entry ⌝ }
 {
-    log[2 * k] = entry.code;
-    log[2 * k + 1] = entry.value;
+    log[ENTRY_WORDS * k] = entry.code;
+    log[ENTRY_WORDS * k + 1] = entry.value;
 }
 
 // One read: the next reading, cut to its register and recorded. Record space is tested before readings.
