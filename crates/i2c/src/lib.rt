@@ -473,13 +473,9 @@ fn read_wo_prepare(
         return a;
     };
     // NACK, then STOP after the next byte.
-    let b = modify_cr1(
-        readings,
-        log,
-        progress1,
-        Bits(registers::STOP, 0),
-        Bits(registers::ACK, 0),
-    );
+    let stop = Bits(registers::STOP, 0);
+    let ack = Bits(registers::ACK, 0);
+    let b = modify_cr1(readings, log, progress1, stop, ack);
     let Outcome::Well(progress2) = b else {
         return b;
     };
