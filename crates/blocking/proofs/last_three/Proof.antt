@@ -41,7 +41,8 @@ returns-3 c =
     let at-second-last = at-b .before .before .before .before .before .before in
     let at-a = at-second-last .before .before .before .before in
     let at-third-last = at-a .before .before .before .before .before .before in
-    call-stops (rw (one-byte _) at (at-receive-bytes .receive-bytes .ensures)) _ (call-step (at-second-last .second-last .ensures _) _ (call-step (at-third-last .third-last .ensures) _ here (at-a .a .given .1)) (at-b .b .given .1)) (c .match3 .keys2)
+    call-stops (rw (one-byte _) at (at-receive-bytes .receive-bytes .ensures)) _
+    (call-step (at-second-last .second-last .ensures _) _ (call-step (at-third-last .third-last .ensures) _ here (at-a .a .given .1)) (at-b .b .given .1)) (c .match3 .keys2)
 
 same-length-7 : tie.Need-same-length-7
 same-length-7 c =
@@ -67,7 +68,9 @@ returns-4 c =
     let at-second-last = at-b .before .before .before .before .before .before in
     let at-a = at-second-last .before .before .before .before in
     let at-third-last = at-a .before .before .before .before .before .before in
-    call-last (call-step (rw (one-byte _) at (at-receive-bytes .receive-bytes .ensures)) _ (call-step (at-second-last .second-last .ensures _) _ (call-step (at-third-last .third-last .ensures) _ here (at-a .a .given .1)) (at-b .b .given .1)) (at-c .c .given .1)) (at-finish-read .finish-read .ensures _)
+    call-last (call-step (rw (one-byte _) at (at-receive-bytes .receive-bytes .ensures)) _
+    (call-step (at-second-last .second-last .ensures _) _ (call-step (at-third-last .third-last .ensures) _ here (at-a .a .given .1)) (at-b .b .given .1)) (at-c .c .given .1))
+    (at-finish-read .finish-read .ensures _)
 
 pub last-three-spec : {M : Type 1} → statement M
 last-three-spec =

@@ -20,7 +20,8 @@ returns-3 c s rx =
     let at-read-status = at-b .before .before .before .before in
     let at-a = at-read-status .before .before .before in
     let at-modify-cr1 = at-a .before .before .before .before in
-    call-last (call-step (at-read-status .read-status .ensures _ _) _ (call-step (at-modify-cr1 .modify-cr1 .ensures _ _) _ here (at-a .a .given .1)) (at-b .b .given .1)) (at-send-stop .send-stop .ensures _ _)
+    call-last (call-step (at-read-status .read-status .ensures _ _) _ (call-step (at-modify-cr1 .modify-cr1 .ensures _ _) _ here (at-a .a .given .1)) (at-b .b .given .1))
+    (at-send-stop .send-stop .ensures _ _)
 
 pub one-ready-spec : {M : Type 1} → statement M
 one-ready-spec =

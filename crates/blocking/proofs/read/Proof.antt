@@ -21,7 +21,9 @@ unfolding read-steps
 returns c = ends-well (rewritten (ap (read-steps _ _) (c .if1 .taken)) here)
 
 returns-2 : tie.Need-returns-2
-returns-2 c = call-stops (c .before .before .before .send-start-and-wait .ensures _) _ (rewritten (not-empty _ _ _ (c .before .before .before .before .before .if1 .left)) here) (c .match .keys2)
+returns-2 c =
+    call-stops (c .before .before .before .send-start-and-wait .ensures _) _ (rewritten (not-empty _ _ _ (c .before .before .before .before .before .if1 .left)) here)
+    (c .match .keys2)
 
 returns-3 : tie.Need-returns-3
 returns-3 c =
@@ -29,7 +31,8 @@ returns-3 c =
     let at-a = at-send-addr-and-wait .before .before .before in
     let at-send-start-and-wait = at-a .before .before .before .before in
     let at-if1 = at-send-start-and-wait .before .before in
-    call-stops (at-send-addr-and-wait .send-addr-and-wait .ensures _) _ (call-step (at-send-start-and-wait .send-start-and-wait .ensures _) _ (rewritten (not-empty _ _ _ (at-if1 .if1 .left)) here) (at-a .a .given .1)) (c .match2 .keys2)
+    call-stops (at-send-addr-and-wait .send-addr-and-wait .ensures _) _
+    (call-step (at-send-start-and-wait .send-start-and-wait .ensures _) _ (rewritten (not-empty _ _ _ (at-if1 .if1 .left)) here) (at-a .a .given .1)) (c .match2 .keys2)
 
 read-arm-requires : tie.Need-read-arm-requires
 read-arm-requires c κs =
@@ -52,7 +55,9 @@ returns-4 c =
     let at-a = at-send-addr-and-wait .before .before .before in
     let at-send-start-and-wait = at-a .before .before .before .before in
     let at-if1 = at-send-start-and-wait .before .before in
-    call-last (call-step (at-send-addr-and-wait .send-addr-and-wait .ensures _) _ (call-step (at-send-start-and-wait .send-start-and-wait .ensures _) _ (rewritten (not-empty _ _ _ (at-if1 .if1 .left)) here) (at-a .a .given .1)) (at-b .b .given .1)) (at-read-arm .read-arm .ensures)
+    call-last (call-step (at-send-addr-and-wait .send-addr-and-wait .ensures _) _
+    (call-step (at-send-start-and-wait .send-start-and-wait .ensures _) _ (rewritten (not-empty _ _ _ (at-if1 .if1 .left)) here) (at-a .a .given .1)) (at-b .b .given .1))
+    (at-read-arm .read-arm .ensures)
 
 pub read-spec : {M : Type 1} → statement M
 read-spec =

@@ -15,11 +15,13 @@ more s n h k l = let e : n ≡ suc (suc (suc (n - 3))) = omega arith in ap (read
 
 returns : tie.Need-returns
 unfolding read-arm
-returns c = call-last (rewritten (ap (read-arm _) (c .before .before .before .before .before .before .before .match .keys1)) here) (c .before .before .before .before .read-one .ensures)
+returns c =
+    call-last (rewritten (ap (read-arm _) (c .before .before .before .before .before .before .before .match .keys1)) here) (c .before .before .before .before .read-one .ensures)
 
 returns-2 : tie.Need-returns-2
 unfolding read-arm
-returns-2 c = call-last (rewritten (ap (read-arm _) (c .before .before .before .before .before .before .before .match .keys2)) here) (c .before .before .before .before .read-two .ensures)
+returns-2 c =
+    call-last (rewritten (ap (read-arm _) (c .before .before .before .before .before .before .before .match .keys2)) here) (c .before .before .before .before .read-two .ensures)
 
 returns-3 : tie.Need-returns-3
 returns-3 c =

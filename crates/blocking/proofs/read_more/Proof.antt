@@ -37,7 +37,8 @@ returns-3 c =
     let at-receive-bytes = at-b .before .before .before .before .before .before in
     let at-a = at-receive-bytes .before .before .before .before in
     let at-more-ready = at-a .before .before .before .before in
-    call-last (call-step (at-receive-bytes .receive-bytes .ensures) _ (call-step (at-more-ready .more-ready .ensures _ _) _ here (at-a .a .given .1)) (at-b .b .given .1)) (at-last-three .last-three .ensures)
+    call-last (call-step (at-receive-bytes .receive-bytes .ensures) _ (call-step (at-more-ready .more-ready .ensures _ _) _ here (at-a .a .given .1)) (at-b .b .given .1))
+    (at-last-three .last-three .ensures)
 
 pub read-more-spec : {M : Type 1} → statement M
 read-more-spec =

@@ -29,7 +29,8 @@ returns-3 c =
     let at-receive-bytes = at-b .before .before .before .before .before .before in
     let at-a = at-receive-bytes .before .before .before .before in
     let at-one-ready = at-a .before .before .before .before in
-    call-last (call-step (rw (one-byte _) at (at-receive-bytes .receive-bytes .ensures)) _ (call-step (at-one-ready .one-ready .ensures _ _) _ here (at-a .a .given .1)) (at-b .b .given .1)) (at-finish-read .finish-read .ensures _)
+    call-last (call-step (rw (one-byte _) at (at-receive-bytes .receive-bytes .ensures)) _ (call-step (at-one-ready .one-ready .ensures _ _) _ here (at-a .a .given .1))
+    (at-b .b .given .1)) (at-finish-read .finish-read .ensures _)
 
 pub read-one-spec : {M : Type 1} → statement M
 read-one-spec =

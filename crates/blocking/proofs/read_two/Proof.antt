@@ -28,7 +28,8 @@ returns-3 c =
     let at-two-bytes = at-b .before .before .before .before .before .before in
     let at-a = at-two-bytes .before .before .before .before in
     let at-two-ready = at-a .before .before .before .before in
-    call-last (call-step (at-two-bytes .two-bytes .ensures _) _ (call-step (at-two-ready .two-ready .ensures _) _ here (at-a .a .given .1)) (at-b .b .given .1)) (at-two-end .two-end .ensures _)
+    call-last (call-step (at-two-bytes .two-bytes .ensures _) _ (call-step (at-two-ready .two-ready .ensures _) _ here (at-a .a .given .1)) (at-b .b .given .1))
+    (at-two-end .two-end .ensures _)
 
 pub read-two-spec : {M : Type 1} → statement M
 read-two-spec =

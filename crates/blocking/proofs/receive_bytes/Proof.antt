@@ -49,7 +49,8 @@ loop-again : tie.Need-loop-again Inv-loop μ-loop
 loop-again c =
     let r = c .before .before .before .before .before .before .before .receive in
     let l = c .before .before .before .before .before .before .before .before .before .before .before .loop in (
-      call-step (r .ensures) _ (rewritten (next-byte _ _ _ (c .before .before .before .before .before .before .before .before .before .before .loop-test .taken)) (l .inv .0)) (c .before .o .given .1),
+      call-step (r .ensures) _ (rewritten (next-byte _ _ _ (c .before .before .before .before .before .before .before .before .before .before .loop-test .taken)) (l .inv .0))
+          (c .before .o .given .1),
       omega (arith, r .kept),
       omega (arith, r .kept),
       keeps-fewer (r .ensures) (c .before .o .given .1) (l .inv .3),

@@ -23,7 +23,8 @@ returns-3 c rx =
     let at-send-addr = at-b .before .before .before .before in
     let at-a = at-send-addr .before .before .before in
     let at-get = at-a .before .before .before .before in
-    wait-last (at-busy-wait-flag .busy-wait-flag .ensures _ Handler.stops rx) (write-step (call-step (at-get .get .ensures _ rx) _ here (at-a .a .given .1)) (at-send-addr .send-addr .ensures _ rx) refl (at-b .b .given .1)) (c .match3 .keys2)
+    wait-last (at-busy-wait-flag .busy-wait-flag .ensures _ Handler.stops rx)
+    (write-step (call-step (at-get .get .ensures _ rx) _ here (at-a .a .given .1)) (at-send-addr .send-addr .ensures _ rx) refl (at-b .b .given .1)) (c .match3 .keys2)
 
 returns-4 : tie.Need-returns-4
 returns-4 c rx =
@@ -34,7 +35,9 @@ returns-4 c rx =
     let at-send-addr = at-b .before .before .before .before in
     let at-a = at-send-addr .before .before .before in
     let at-get = at-a .before .before .before .before in
-    call-last (rewritten (append-nil _) (wait-fails (at-busy-wait-flag .busy-wait-flag .ensures _ Handler.stops rx) _ (write-step (call-step (at-get .get .ensures _ rx) _ here (at-a .a .given .1)) (at-send-addr .send-addr .ensures _ rx) refl (at-b .b .given .1)) (at-w .w .given .1))) (at-stop-for .stop-for .ensures _ rx)
+    call-last (rewritten (append-nil _) (wait-fails (at-busy-wait-flag .busy-wait-flag .ensures _ Handler.stops rx) _
+    (write-step (call-step (at-get .get .ensures _ rx) _ here (at-a .a .given .1)) (at-send-addr .send-addr .ensures _ rx) refl (at-b .b .given .1)) (at-w .w .given .1)))
+    (at-stop-for .stop-for .ensures _ rx)
 
 pub send-addr-and-wait-spec : {M : Type 1} → statement M
 send-addr-and-wait-spec =

@@ -77,7 +77,8 @@ returns-2 c rx =
     let at-send-start = at-a .before .before .before .before in
     let at-loop-test = at-send-start .before .before in
     let at-loop = at-loop-test .before in
-    wait-last (at-busy-wait-flag .busy-wait-flag .ensures _ _ rx) (call-step (at-send-start .send-start .ensures _ rx) _ (try-first _ _ (at-loop-test .loop-test .taken) (at-loop .loop .inv .0 rx)) (at-a .a .given .1)) (c .match2 .keys2)
+    wait-last (at-busy-wait-flag .busy-wait-flag .ensures _ _ rx)
+    (call-step (at-send-start .send-start .ensures _ rx) _ (try-first _ _ (at-loop-test .loop-test .taken) (at-loop .loop .inv .0 rx)) (at-a .a .given .1)) (c .match2 .keys2)
 
 same-length-3 : tie.Need-same-length-3 Inv-loop μ-loop
 same-length-3 c =
@@ -96,7 +97,8 @@ returns-3 c rx =
     let at-send-start = at-a .before .before .before .before in
     let at-loop-test = at-send-start .before .before in
     let at-loop = at-loop-test .before in
-    call-stops (at-reset .reset .ensures rx) _ (try-fails (try-first _ _ (at-loop-test .loop-test .taken) (at-loop .loop .inv .0 rx)) (at-send-start .send-start .ensures _ rx) (at-a .a .given .1) (at-busy-wait-flag .busy-wait-flag .ensures _ _ rx) (at-w .w .given .1)) (c .match3 .keys2)
+    call-stops (at-reset .reset .ensures rx) _ (try-fails (try-first _ _ (at-loop-test .loop-test .taken) (at-loop .loop .inv .0 rx)) (at-send-start .send-start .ensures _ rx)
+    (at-a .a .given .1) (at-busy-wait-flag .busy-wait-flag .ensures _ _ rx) (at-w .w .given .1)) (c .match3 .keys2)
 
 same-length-4 : tie.Need-same-length-4 Inv-loop μ-loop
 same-length-4 c =
@@ -116,7 +118,9 @@ returns-4 c rx =
     let at-send-start = at-a .before .before .before .before in
     let at-loop-test = at-send-start .before .before in
     let at-loop = at-loop-test .before in
-    ends-failed (rewritten (again-none _ _ _ (c .if1 .taken)) (call-step (at-reset .reset .ensures rx) _ (try-fails (try-first _ _ (at-loop-test .loop-test .taken) (at-loop .loop .inv .0 rx)) (at-send-start .send-start .ensures _ rx) (at-a .a .given .1) (at-busy-wait-flag .busy-wait-flag .ensures _ _ rx) (at-w .w .given .1)) (at-b .b .given .1)))
+    ends-failed (rewritten (again-none _ _ _ (c .if1 .taken)) (call-step (at-reset .reset .ensures rx) _
+    (try-fails (try-first _ _ (at-loop-test .loop-test .taken) (at-loop .loop .inv .0 rx)) (at-send-start .send-start .ensures _ rx) (at-a .a .given .1)
+    (at-busy-wait-flag .busy-wait-flag .ensures _ _ rx) (at-w .w .given .1)) (at-b .b .given .1)))
 
 loop-again : tie.Need-loop-again Inv-loop μ-loop
 loop-again c =
@@ -128,7 +132,9 @@ loop-again c =
     let at-send-start = at-a .before .before .before .before in
     let at-loop-test = at-send-start .before .before in
     let at-loop = at-loop-test .before in (
-      (λ rx. rewritten (again-more _ _ _ (c .if1 .left)) (call-step (at-reset .reset .ensures rx) _ (try-fails (try-first _ _ (at-loop-test .loop-test .taken) (at-loop .loop .inv .0 rx)) (at-send-start .send-start .ensures _ rx) (at-a .a .given .1) (at-busy-wait-flag .busy-wait-flag .ensures _ _ rx) (at-w .w .given .1)) (at-b .b .given .1))),
+      (λ rx. rewritten (again-more _ _ _ (c .if1 .left)) (call-step (at-reset .reset .ensures rx) _
+          (try-fails (try-first _ _ (at-loop-test .loop-test .taken) (at-loop .loop .inv .0 rx)) (at-send-start .send-start .ensures _ rx) (at-a .a .given .1)
+          (at-busy-wait-flag .busy-wait-flag .ensures _ _ rx) (at-w .w .given .1)) (at-b .b .given .1))),
       omega (arith, at-reset .reset .kept, at-busy-wait-flag .busy-wait-flag .kept, at-send-start .send-start .kept, at-loop .loop .inv .1),
     )
 

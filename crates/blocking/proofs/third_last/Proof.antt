@@ -21,7 +21,8 @@ read-data-requires c κs =
     let at-a = at-modify-cr1 .before .before .before in
     let at-busy-wait-flag = at-a .before .before .before .before in
     let at-start = at-busy-wait-flag .before .before .before .before .before in
-    keeps-fewer (at-modify-cr1 .modify-cr1 .ensures no-setup []) (at-b .b .given .1) (keeps-fewer (waits-end (at-busy-wait-flag .busy-wait-flag .ensures no-setup _ [])) (at-a .a .given .1) (at-start .pre))
+    keeps-fewer (at-modify-cr1 .modify-cr1 .ensures no-setup []) (at-b .b .given .1)
+    (keeps-fewer (waits-end (at-busy-wait-flag .busy-wait-flag .ensures no-setup _ [])) (at-a .a .given .1) (at-start .pre))
 
 returns-3 : tie.Need-returns-3
 returns-3 c =
@@ -30,7 +31,8 @@ returns-3 c =
     let at-modify-cr1 = at-b .before .before .before .before in
     let at-a = at-modify-cr1 .before .before .before in
     let at-busy-wait-flag = at-a .before .before .before .before in
-    call-last (call-step (at-modify-cr1 .modify-cr1 .ensures _ _) _ (call-step (waits-end (at-busy-wait-flag .busy-wait-flag .ensures _ _ _)) _ here (at-a .a .given .1)) (at-b .b .given .1)) (at-read-data .read-data .ensures _)
+    call-last (call-step (at-modify-cr1 .modify-cr1 .ensures _ _) _ (call-step (waits-end (at-busy-wait-flag .busy-wait-flag .ensures _ _ _)) _ here (at-a .a .given .1))
+    (at-b .b .given .1)) (at-read-data .read-data .ensures _)
 
 pub third-last-spec : {M : Type 1} → statement M
 third-last-spec =

@@ -37,7 +37,8 @@ returns-3 c s =
     let at-read-data = at-b .before .before .before .before .before .before in
     let at-a = at-read-data .before .before .before .before in
     let at-send-stop = at-a .before .before .before .before in
-    call-last (call-step (at-read-data .read-data .ensures _) _ (call-step (at-send-stop .send-stop .ensures _ _) _ here (at-a .a .given .1)) (at-b .b .given .1)) (at-read-data2 .read-data2 .ensures _)
+    call-last (call-step (at-read-data .read-data .ensures _) _ (call-step (at-send-stop .send-stop .ensures _ _) _ here (at-a .a .given .1)) (at-b .b .given .1))
+    (at-read-data2 .read-data2 .ensures _)
 
 pub two-bytes-spec : {M : Type 1} → statement M
 two-bytes-spec =

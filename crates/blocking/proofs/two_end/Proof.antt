@@ -20,7 +20,8 @@ returns-3 c rx =
     let at-modify-cr1 = at-b .before .before .before .before in
     let at-a = at-modify-cr1 .before .before .before in
     let at-busy-wait-stop = at-a .before .before .before .before in
-    call-last (call-step (at-modify-cr1 .modify-cr1 .ensures _ _) _ (call-step (waits-end (at-busy-wait-stop .busy-wait-stop .ensures _ _ _)) _ here (at-a .a .given .1)) (at-b .b .given .1)) (at-modify-cr12 .modify-cr12 .ensures _ _)
+    call-last (call-step (at-modify-cr1 .modify-cr1 .ensures _ _) _ (call-step (waits-end (at-busy-wait-stop .busy-wait-stop .ensures _ _ _)) _ here (at-a .a .given .1))
+    (at-b .b .given .1)) (at-modify-cr12 .modify-cr12 .ensures _ _)
 
 pub two-end-spec : {M : Type 1} → statement M
 two-end-spec =

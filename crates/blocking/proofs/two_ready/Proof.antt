@@ -20,7 +20,8 @@ returns-3 c rx =
     let at-read-status = at-b .before .before .before .before in
     let at-a = at-read-status .before .before .before in
     let at-modify-cr1 = at-a .before .before .before .before in
-    call-stops (at-modify-cr12 .modify-cr12 .ensures _ _) _ (call-step (at-read-status .read-status .ensures _ _) _ (call-step (at-modify-cr1 .modify-cr1 .ensures _ _) _ here (at-a .a .given .1)) (at-b .b .given .1)) (c .match3 .keys2)
+    call-stops (at-modify-cr12 .modify-cr12 .ensures _ _) _ (call-step (at-read-status .read-status .ensures _ _) _
+    (call-step (at-modify-cr1 .modify-cr1 .ensures _ _) _ here (at-a .a .given .1)) (at-b .b .given .1)) (c .match3 .keys2)
 
 returns-4 : tie.Need-returns-4
 returns-4 c rx =
@@ -31,7 +32,9 @@ returns-4 c rx =
     let at-read-status = at-b .before .before .before .before in
     let at-a = at-read-status .before .before .before in
     let at-modify-cr1 = at-a .before .before .before .before in
-    call-last (call-step (at-modify-cr12 .modify-cr12 .ensures _ _) _ (call-step (at-read-status .read-status .ensures _ _) _ (call-step (at-modify-cr1 .modify-cr1 .ensures _ _) _ here (at-a .a .given .1)) (at-b .b .given .1)) (at-c .c .given .1)) (waits-end (at-busy-wait-flag .busy-wait-flag .ensures _ _ _))
+    call-last (call-step (at-modify-cr12 .modify-cr12 .ensures _ _) _
+    (call-step (at-read-status .read-status .ensures _ _) _ (call-step (at-modify-cr1 .modify-cr1 .ensures _ _) _ here (at-a .a .given .1)) (at-b .b .given .1))
+    (at-c .c .given .1)) (waits-end (at-busy-wait-flag .busy-wait-flag .ensures _ _ _))
 
 pub two-ready-spec : {M : Type 1} → statement M
 two-ready-spec =

@@ -29,7 +29,8 @@ returns : tie.Need-returns
 returns c rx =
     let at-write-first = c .before .before .before in
     let at-start = at-write-first .before .before .before .before .before .before .before in
-    wait-stops (settles (get-unfailing SR1 refl (get-unfailing SR2 refl (put-unfailing wDR _ refl nothing-fails))) (at-write-first .write-first .ensures _ rx)) _ (rewritten (its-bytes _ _ (at-start .pre)) here) (c .match .keys2)
+    wait-stops (settles (get-unfailing SR1 refl (get-unfailing SR2 refl (put-unfailing wDR _ refl nothing-fails))) (at-write-first .write-first .ensures _ rx)) _
+    (rewritten (its-bytes _ _ (at-start .pre)) here) (c .match .keys2)
 
 returns-2 : tie.Need-returns-2
 returns-2 c rx =
@@ -37,7 +38,8 @@ returns-2 c rx =
     let at-a = at-write-later .before .before .before .before in
     let at-write-first = at-a .before .before .before .before in
     let at-start = at-write-first .before .before .before .before .before .before .before in
-    wait-stops (at-write-later .write-later .ensures rx) _ (call-step (at-write-first .write-first .ensures _ rx) _ (rewritten (its-bytes _ _ (at-start .pre)) here) (at-a .a .given .1)) (c .match2 .keys2)
+    wait-stops (at-write-later .write-later .ensures rx) _ (call-step (at-write-first .write-first .ensures _ rx) _ (rewritten (its-bytes _ _ (at-start .pre)) here)
+    (at-a .a .given .1)) (c .match2 .keys2)
 
 returns-3 : tie.Need-returns-3
 returns-3 c rx =
@@ -48,7 +50,8 @@ returns-3 c rx =
     let at-write-first = at-a .before .before .before .before in
     let at-start = at-write-first .before .before .before .before .before .before .before in
     waits-last
-    (wait-step (at-write-later .write-later .ensures rx) _ (call-step (at-write-first .write-first .ensures _ rx) _ (rewritten (its-bytes _ _ (at-start .pre)) here) (at-a .a .given .1)) (at-b .b .given .1))
+    (wait-step (at-write-later .write-later .ensures rx) _ (call-step (at-write-first .write-first .ensures _ rx) _ (rewritten (its-bytes _ _ (at-start .pre)) here)
+    (at-a .a .given .1)) (at-b .b .given .1))
     (at-busy-wait-flag .busy-wait-flag .ensures _ _ rx)
 
 pub write-bytes-and-wait-spec : {M : Type 1} → statement M

@@ -49,7 +49,8 @@ returns c rx =
     let at-busy-wait-flag = c .before .before .before in
     let at-loop-test = at-busy-wait-flag .before .before in
     let at-loop = at-loop-test .before in
-    wait-stops (at-busy-wait-flag .busy-wait-flag .ensures _ _ rx) _ (rewritten (next-byte _ refl _ _ (at-loop-test .loop-test .taken)) (at-loop .loop .inv .0 _ rx refl)) (c .match .keys2)
+    wait-stops (at-busy-wait-flag .busy-wait-flag .ensures _ _ rx) _ (rewritten (next-byte _ refl _ _ (at-loop-test .loop-test .taken)) (at-loop .loop .inv .0 _ rx refl))
+    (c .match .keys2)
 
 cast-write : tie.Need-cast-write Inv-loop μ-loop
 cast-write c = omega (arith, c .shared-slice-known3 .given (c .before .before .before .before .before .before .before .before .before .before .loop .i))
@@ -62,7 +63,8 @@ returns-2 c rx =
     let at-loop-test = at-busy-wait-flag .before .before in
     let at-loop = at-loop-test .before in
     wait-stops (settles (put-unfailing _ _ refl nothing-fails) (write-last here (at-write .write .ensures _ rx) refl)) _
-    (wait-step (at-busy-wait-flag .busy-wait-flag .ensures _ _ rx) _ (rewritten (next-byte _ refl _ _ (at-loop-test .loop-test .taken)) (at-loop .loop .inv .0 _ rx refl)) (at-w .w .given .1))
+    (wait-step (at-busy-wait-flag .busy-wait-flag .ensures _ _ rx) _ (rewritten (next-byte _ refl _ _ (at-loop-test .loop-test .taken)) (at-loop .loop .inv .0 _ rx refl))
+    (at-w .w .given .1))
     (c .match2 .keys2)
 
 add-i : tie.Need-add-i Inv-loop μ-loop
@@ -75,7 +77,9 @@ loop-again c =
     let at-busy-wait-flag = at-w .before .before .before .before in
     let at-loop-test = at-busy-wait-flag .before .before in
     let at-loop = at-loop-test .before in (
-      (λ s rx e. write-step (wait-step (at-busy-wait-flag .busy-wait-flag .ensures s _ rx) _ (rewritten (next-byte s e _ _ (at-loop-test .loop-test .taken)) (at-loop .loop .inv .0 s rx e)) (at-w .w .given .1)) (at-write .write .ensures _ rx) refl (c .before .o .given .1)),
+      (λ s rx e. write-step (wait-step (at-busy-wait-flag .busy-wait-flag .ensures s _ rx) _
+          (rewritten (next-byte s e _ _ (at-loop-test .loop-test .taken)) (at-loop .loop .inv .0 s rx e)) (at-w .w .given .1)) (at-write .write .ensures _ rx) refl
+          (c .before .o .given .1)),
       omega (arith, at-busy-wait-flag .busy-wait-flag .kept, at-write .write .kept),
       omega arith,
     )

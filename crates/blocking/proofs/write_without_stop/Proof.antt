@@ -28,7 +28,9 @@ returns : tie.Need-returns
 returns c rx = ends-well (rewritten (empty _ _ _ (c .if1 .taken)) here)
 
 returns-2 : tie.Need-returns-2
-returns-2 c rx = call-stops (c .before .before .before .send-start-and-wait .ensures rx) _ (rewritten (not-empty _ _ _ (c .before .before .before .before .before .if1 .left)) here) (c .match .keys2)
+returns-2 c rx =
+    call-stops (c .before .before .before .send-start-and-wait .ensures rx) _ (rewritten (not-empty _ _ _ (c .before .before .before .before .before .if1 .left)) here)
+    (c .match .keys2)
 
 returns-3 : tie.Need-returns-3
 returns-3 c rx =
@@ -36,7 +38,8 @@ returns-3 c rx =
     let at-a = at-send-addr-and-wait .before .before .before in
     let at-send-start-and-wait = at-a .before .before .before .before in
     let at-if1 = at-send-start-and-wait .before .before in
-    call-stops (at-send-addr-and-wait .send-addr-and-wait .ensures rx) _ (call-step (at-send-start-and-wait .send-start-and-wait .ensures rx) _ (rewritten (not-empty _ _ _ (at-if1 .if1 .left)) here) (at-a .a .given .1)) (c .match2 .keys2)
+    call-stops (at-send-addr-and-wait .send-addr-and-wait .ensures rx) _
+    (call-step (at-send-start-and-wait .send-start-and-wait .ensures rx) _ (rewritten (not-empty _ _ _ (at-if1 .if1 .left)) here) (at-a .a .given .1)) (c .match2 .keys2)
 
 returns-4 : tie.Need-returns-4
 returns-4 c rx =
@@ -46,7 +49,10 @@ returns-4 c rx =
     let at-a = at-send-addr-and-wait .before .before .before in
     let at-send-start-and-wait = at-a .before .before .before .before in
     let at-if1 = at-send-start-and-wait .before .before in
-    wait-last (at-write-bytes-and-wait .write-bytes-and-wait .ensures rx) (call-step (at-send-addr-and-wait .send-addr-and-wait .ensures rx) _ (call-step (at-send-start-and-wait .send-start-and-wait .ensures rx) _ (rewritten (not-empty _ _ _ (at-if1 .if1 .left)) here) (at-a .a .given .1)) (at-b .b .given .1)) (c .match3 .keys2)
+    wait-last (at-write-bytes-and-wait .write-bytes-and-wait .ensures rx)
+    (call-step (at-send-addr-and-wait .send-addr-and-wait .ensures rx) _
+    (call-step (at-send-start-and-wait .send-start-and-wait .ensures rx) _ (rewritten (not-empty _ _ _ (at-if1 .if1 .left)) here) (at-a .a .given .1)) (at-b .b .given .1))
+    (c .match3 .keys2)
 
 returns-5 : tie.Need-returns-5
 returns-5 c rx =
@@ -58,7 +64,10 @@ returns-5 c rx =
     let at-a = at-send-addr-and-wait .before .before .before in
     let at-send-start-and-wait = at-a .before .before .before .before in
     let at-if1 = at-send-start-and-wait .before .before in
-    wait-handled (at-write-bytes-and-wait .write-bytes-and-wait .ensures rx) (call-step (at-send-addr-and-wait .send-addr-and-wait .ensures rx) _ (call-step (at-send-start-and-wait .send-start-and-wait .ensures rx) _ (rewritten (not-empty _ _ _ (at-if1 .if1 .left)) here) (at-a .a .given .1)) (at-b .b .given .1)) (at-w .w .given .1) (at-stop-for .stop-for .ensures _ rx)
+    wait-handled (at-write-bytes-and-wait .write-bytes-and-wait .ensures rx)
+    (call-step (at-send-addr-and-wait .send-addr-and-wait .ensures rx) _
+    (call-step (at-send-start-and-wait .send-start-and-wait .ensures rx) _ (rewritten (not-empty _ _ _ (at-if1 .if1 .left)) here) (at-a .a .given .1)) (at-b .b .given .1))
+    (at-w .w .given .1) (at-stop-for .stop-for .ensures _ rx)
 
 pub write-without-stop-spec : {M : Type 1} → statement M
 write-without-stop-spec =

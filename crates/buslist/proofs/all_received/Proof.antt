@@ -20,10 +20,16 @@ loop-holds : tie.Need-loop-holds Inv-loop μ-loop
 loop-holds c = (omega arith, rw (c .before .operation-count .ensures, sub-zero, zero-add))
 
 add-sum : tie.Need-add-sum Inv-loop μ-loop
-add-sum c = let t = c .before .before in omega (arith, c .received .ensures, received-le (c .before .operation-at .result), c .before .operation-at .ok)
+add-sum c = omega (arith, c .received .ensures, received-le (c .before .operation-at .result), c .before .operation-at .ok)
 
 loop-again : tie.Need-loop-again Inv-loop μ-loop
-loop-again c = let t = c .before .before in (omega (arith, c .received .ensures, received-le (c .before .operation-at .result), c .before .operation-at .ok), t .before .loop .inv .1 ∙ rw (all-received-step _ _ _ (t .loop-test .taken), ← c .before .operation-at .ensures, ← c .received .ensures, add-assoc))
+loop-again c =
+    let at-loop-test = c .before .before in
+    let at-loop = at-loop-test .before in (
+      omega (arith, c .received .ensures, received-le (c .before .operation-at .result), c .before .operation-at .ok),
+      at-loop .loop .inv .1 ∙ rw
+          (all-received-step _ _ _ (at-loop-test .loop-test .taken), ← c .before .operation-at .ensures, ← c .received .ensures, add-assoc),
+    )
 
 returns : tie.Need-returns Inv-loop μ-loop
 unfolding all-received

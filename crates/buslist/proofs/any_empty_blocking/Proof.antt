@@ -19,10 +19,20 @@ loop-holds : tie.Need-loop-holds Inv-loop μ-loop
 loop-holds c = rw (c .before .before .call-count .ensures, sub-zero)
 
 returns : tie.Need-returns Inv-loop μ-loop
-returns c = let t = c .before .before .before in sym (t .before .loop .inv ∙ any-here _ _ (t .before .loop .k) _ (t .loop-test .taken) (rw (← c .before .before .call-at .ensures, ← c .before .empty-blocking .ensures, c .if1 .taken)))
+returns c =
+    let at-call-at = c .before .before in
+    let at-loop-test = at-call-at .before in
+    let at-loop = at-loop-test .before in
+    sym (at-loop .loop .inv ∙ any-here _ _ (at-loop .loop .k) _ (at-loop-test .loop-test .taken)
+    (rw (← at-call-at .call-at .ensures, ← c .before .empty-blocking .ensures, c .if1 .taken)))
 
 loop-again : tie.Need-loop-again Inv-loop μ-loop
-loop-again c = let t = c .before .before .before in t .before .loop .inv ∙ any-later _ _ (t .before .loop .k) _ (t .loop-test .taken) (rw (← c .before .before .call-at .ensures, ← c .before .empty-blocking .ensures, c .if1 .left))
+loop-again c =
+    let at-call-at = c .before .before in
+    let at-loop-test = at-call-at .before in
+    let at-loop = at-loop-test .before in
+    at-loop .loop .inv ∙ any-later _ _ (at-loop .loop .k) _ (at-loop-test .loop-test .taken)
+    (rw (← at-call-at .call-at .ensures, ← c .before .empty-blocking .ensures, c .if1 .left))
 
 returns-2 : tie.Need-returns-2 Inv-loop μ-loop
 returns-2 c = sym (c .before .loop .inv ∙ any-none _ _ (c .before .loop .k) _ (c .loop-test .left))

@@ -19,10 +19,20 @@ loop-holds : tie.Need-loop-holds Inv-loop μ-loop
 loop-holds c = rw (c .before .operation-count .ensures, sub-zero)
 
 returns : tie.Need-returns Inv-loop μ-loop
-returns c = let t = c .before .before .before in sym (t .before .loop .inv ∙ any-here _ _ (t .before .loop .j) _ (t .loop-test .taken) (rw (← c .before .before .operation-at .ensures, ← c .before .too-long .ensures, c .if1 .taken)))
+returns c =
+    let at-operation-at = c .before .before in
+    let at-loop-test = at-operation-at .before in
+    let at-loop = at-loop-test .before in
+    sym (at-loop .loop .inv ∙ any-here _ _ (at-loop .loop .j) _ (at-loop-test .loop-test .taken)
+    (rw (← at-operation-at .operation-at .ensures, ← c .before .too-long .ensures, c .if1 .taken)))
 
 loop-again : tie.Need-loop-again Inv-loop μ-loop
-loop-again c = let t = c .before .before .before in t .before .loop .inv ∙ any-later _ _ (t .before .loop .j) _ (t .loop-test .taken) (rw (← c .before .before .operation-at .ensures, ← c .before .too-long .ensures, c .if1 .left))
+loop-again c =
+    let at-operation-at = c .before .before in
+    let at-loop-test = at-operation-at .before in
+    let at-loop = at-loop-test .before in
+    at-loop .loop .inv ∙ any-later _ _ (at-loop .loop .j) _ (at-loop-test .loop-test .taken)
+    (rw (← at-operation-at .operation-at .ensures, ← c .before .too-long .ensures, c .if1 .left))
 
 returns-2 : tie.Need-returns-2 Inv-loop μ-loop
 returns-2 c = sym (c .before .loop .inv ∙ any-none _ _ (c .before .loop .j) _ (c .loop-test .left))

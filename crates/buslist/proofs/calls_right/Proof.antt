@@ -20,13 +20,36 @@ loop-holds : tie.Need-loop-holds Inv-loop μ-loop
 loop-holds c = (omega arith, rw (c .before .before .call-count .ensures, sub-zero))
 
 returns : tie.Need-returns Inv-loop μ-loop
-returns c = let t = c .before .before .before in sym (t .before .loop .inv .1 ∙ rw (calls-right-step _ _ _ _ _ (t .loop-test .taken), ← c .before .before .call-at .ensures, ← c .before .call-right .ensures, not-true (c .before .call-right .result) (c .if1 .taken)))
+returns c =
+    let at-call-at = c .before .before in
+    let at-loop-test = at-call-at .before in
+    let at-loop = at-loop-test .before in
+    sym (at-loop .loop .inv .1 ∙ rw (
+      calls-right-step _ _ _ _ _ (at-loop-test .loop-test .taken),
+      ← at-call-at .call-at .ensures,
+      ← c .before .call-right .ensures,
+      not-true
+          (c .before .call-right .result) (c .if1 .taken),
+    ))
 
 add-sum : tie.Need-add-sum Inv-loop μ-loop
 add-sum c = omega (arith, c .struct-known .given)
 
 loop-again : tie.Need-loop-again Inv-loop μ-loop
-loop-again c = let t = c .before .before .before .before in (omega (arith, c .struct-known .given), t .before .loop .inv .1 ∙ rw (calls-right-step _ _ _ _ _ (t .loop-test .taken), ← c .before .before .before .call-at .ensures, ← c .before .before .call-right .ensures, not-false (c .before .before .call-right .result) (c .before .if1 .left)))
+loop-again c =
+    let at-call-right = c .before .before in
+    let at-call-at = at-call-right .before in
+    let at-loop-test = at-call-at .before in
+    let at-loop = at-loop-test .before in (
+      omega (arith, c .struct-known .given),
+      at-loop .loop .inv .1 ∙ rw (
+        calls-right-step _ _ _ _ _ (at-loop-test .loop-test .taken),
+        ← at-call-at .call-at .ensures,
+        ← at-call-right .call-right .ensures,
+        not-false
+            (at-call-right .call-right .result) (c .before .if1 .left),
+      ),
+    )
 
 returns-2 : tie.Need-returns-2 Inv-loop μ-loop
 unfolding calls-right

@@ -10,11 +10,31 @@ returns c = rw (← c .before .header-right .ensures, not-true (c .before .heade
 
 returns-2 : tie.Need-returns-2
 unfolding of-the-form
-returns-2 c = let h = c .before .before in rw (← h .before .header-right .ensures, not-false (h .before .header-right .result) (h .if1 .left), ← c .before .operations-right .ensures, not-true (c .before .operations-right .result) (c .if2 .taken))
+returns-2 c =
+    let at-if1 = c .before .before in
+    let at-header-right = at-if1 .before in
+    rw (
+      ← at-header-right .header-right .ensures,
+      not-false (at-header-right .header-right .result) (at-if1 .if1 .left),
+      ← c .before .operations-right .ensures,
+      not-true
+          (c .before .operations-right .result) (c .if2 .taken),
+    )
 
 returns-3 : tie.Need-returns-3
 unfolding of-the-form
-returns-3 c = let o = c .before in let h = o .before .before in rw (← h .before .header-right .ensures, not-false (h .before .header-right .result) (h .if1 .left), ← o .before .operations-right .ensures, not-false (o .before .operations-right .result) (o .if2 .left), ← c .calls-right .ensures)
+returns-3 c =
+    let at-operations-right = c .before .before in
+    let at-if1 = at-operations-right .before in
+    let at-header-right = at-if1 .before in
+    rw (
+      ← at-header-right .header-right .ensures,
+      not-false (at-header-right .header-right .result) (at-if1 .if1 .left),
+      ← at-operations-right .operations-right .ensures,
+      not-false
+          (at-operations-right .operations-right .result) (c .before .if2 .left),
+      ← c .calls-right .ensures,
+    )
 
 pub of-the-form-spec : {M : Type 1} → statement M
 of-the-form-spec =

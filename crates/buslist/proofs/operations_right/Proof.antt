@@ -20,13 +20,38 @@ loop-holds : tie.Need-loop-holds Inv-loop μ-loop
 loop-holds c = (omega arith, rw (c .before .operation-count .ensures, sub-zero))
 
 returns : tie.Need-returns Inv-loop μ-loop
-returns c = let t = c .before .before .before in sym (t .before .loop .inv .1 ∙ rw (operations-right-step _ _ _ (t .loop-test .taken), ← c .before .before .operation-at .ensures, ← c .before .operation-right .ensures, not-true (c .before .operation-right .result) (c .if1 .taken)))
+returns c =
+    let at-operation-at = c .before .before in
+    let at-loop-test = at-operation-at .before in
+    let at-loop = at-loop-test .before in
+    sym (at-loop .loop .inv .1 ∙ rw (
+      operations-right-step _ _ _
+          (at-loop-test .loop-test .taken),
+      ← at-operation-at .operation-at .ensures,
+      ← c .before .operation-right .ensures,
+      not-true (c .before .operation-right .result)
+          (c .if1 .taken),
+    ))
 
 add-sum : tie.Need-add-sum Inv-loop μ-loop
-add-sum c = let t = c .before .before .before .before in omega (arith, c .written .ensures, written-le (c .before .before .before .operation-at .result), c .before .before .before .operation-at .ok)
+add-sum c = omega (arith, c .written .ensures, written-le (c .before .before .before .operation-at .result), c .before .before .before .operation-at .ok)
 
 loop-again : tie.Need-loop-again Inv-loop μ-loop
-loop-again c = let t = c .before .before .before .before in (omega (arith, c .written .ensures, written-le (c .before .before .before .operation-at .result), c .before .before .before .operation-at .ok), t .before .loop .inv .1 ∙ rw (operations-right-step _ _ _ (t .loop-test .taken), ← c .before .before .before .operation-at .ensures, ← c .before .before .operation-right .ensures, not-false (c .before .before .operation-right .result) (c .before .if1 .left), ← c .written .ensures))
+loop-again c =
+    let at-operation-right = c .before .before in
+    let at-operation-at = at-operation-right .before in
+    let at-loop-test = at-operation-at .before in
+    let at-loop = at-loop-test .before in (
+      omega (arith, c .written .ensures, written-le (at-operation-at .operation-at .result), at-operation-at .operation-at .ok),
+      at-loop .loop .inv .1 ∙ rw (
+        operations-right-step _ _ _ (at-loop-test .loop-test .taken),
+        ← at-operation-at .operation-at .ensures,
+        ← at-operation-right .operation-right .ensures,
+        not-false
+            (at-operation-right .operation-right .result) (c .before .if1 .left),
+        ← c .written .ensures,
+      ),
+    )
 
 returns-2 : tie.Need-returns-2 Inv-loop μ-loop
 unfolding operations-right

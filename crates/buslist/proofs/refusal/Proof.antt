@@ -50,14 +50,12 @@ returns-2 c = sym (past-form (c .before .before) ∙ rw (← c .before .over-lim
 returns-3 : tie.Need-returns-3
 unfolding causes first-cause
 returns-3 c =
-    let s = c .before .before in
-    sym (past-limits (s .before) ∙ rw (← s .read-settings .ensures, ← c .before .frequency-out .ensures, c .if3 .taken))
+    sym (past-limits (c .before .before .before) ∙ rw (← c .before .before .read-settings .ensures, ← c .before .frequency-out .ensures, c .if3 .taken))
 
 returns-4 : tie.Need-returns-4
 unfolding causes first-cause
 returns-4 c =
-    let s = c .before .before .before .before in
-    sym (past-frequency (c .before .before) ∙ rw (← s .read-settings .ensures, ← c .before .timeout-out .ensures, c .if4 .taken))
+    sym (past-frequency (c .before .before) ∙ rw (← c .before .before .before .before .read-settings .ensures, ← c .before .timeout-out .ensures, c .if4 .taken))
 
 returns-5 : tie.Need-returns-5
 unfolding causes first-cause

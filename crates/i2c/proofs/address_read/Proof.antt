@@ -21,7 +21,8 @@ returns-3 c s rx =
     let at-check-twice = at-b .before .before .before .before in
     let at-a = at-check-twice .before .before .before in
     let at-send-addr = at-a .before .before .before .before in
-    call-last (call-step (at-check-twice .check-twice .ensures s rx) _ (write-step here (at-send-addr .send-addr .ensures _ rx) refl (at-a .a .given .1)) (at-b .b .given .1)) (at-get .get .ensures s rx)
+    call-last (call-step (at-check-twice .check-twice .ensures s rx) _ (write-step here (at-send-addr .send-addr .ensures _ rx) refl (at-a .a .given .1)) (at-b .b .given .1))
+    (at-get .get .ensures s rx)
 
 pub address-read-spec : {M : Type 1} → statement M
 address-read-spec =

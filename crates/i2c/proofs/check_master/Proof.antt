@@ -23,7 +23,8 @@ returns : tie.Need-returns Inv-loop μ-loop
 returns c s rx =
     let at-check-and-clear-error-flags = c .before .before .before .before in
     let at-loop = at-check-and-clear-error-flags .before .before in
-    rw (c .check-outcome .ensures) (check-stops (at-loop .loop .inv .0 s rx) (at-check-and-clear-error-flags .check-and-clear-error-flags .ensures rx) check-master-checks (c .before .match .keys2))
+    rw (c .check-outcome .ensures) (check-stops (at-loop .loop .inv .0 s rx) (at-check-and-clear-error-flags .check-and-clear-error-flags .ensures rx) check-master-checks
+    (c .before .match .keys2))
 
 returns-2 : tie.Need-returns-2 Inv-loop μ-loop
 returns-2 c s rx =
@@ -32,7 +33,8 @@ returns-2 c s rx =
     let at-check-and-clear-error-flags = at-c .before .before .before .before in
     let at-loop = at-check-and-clear-error-flags .before .before in
     rw (c .outcome-of .ensures)
-    (read-stops (check-step (at-loop .loop .inv .0 s rx) (at-check-and-clear-error-flags .check-and-clear-error-flags .ensures rx) check-master-checks (at-c .c .given .1) refl) (at-read .read .ensures rx) refl refl (c .before .enum-told .given .1))
+    (read-stops (check-step (at-loop .loop .inv .0 s rx) (at-check-and-clear-error-flags .check-and-clear-error-flags .ensures rx) check-master-checks (at-c .c .given .1) refl)
+    (at-read .read .ensures rx) refl refl (c .before .enum-told .given .1))
 
 returns-3 : tie.Need-returns-3 Inv-loop μ-loop
 unfolding next
@@ -43,7 +45,8 @@ returns-3 c s rx =
     let at-check-and-clear-error-flags = at-c .before .before .before .before in
     let at-loop = at-check-and-clear-error-flags .before .before in
     ends-well
-    (read-step (check-step (at-loop .loop .inv .0 s rx) (at-check-and-clear-error-flags .check-and-clear-error-flags .ensures rx) check-master-checks (at-c .c .given .1) refl) (at-read .read .ensures rx) refl refl refl (at-t .t .given .1)
+    (read-step (check-step (at-loop .loop .inv .0 s rx) (at-check-and-clear-error-flags .check-and-clear-error-flags .ensures rx) check-master-checks (at-c .c .given .1) refl)
+    (at-read .read .ensures rx) refl refl refl (at-t .t .given .1)
     (cond-true [] _ (sym (c .before .has .ensures) ∙ c .if1 .taken)))
 
 returns-4 : tie.Need-returns-4 Inv-loop μ-loop
@@ -57,7 +60,8 @@ returns-4 c s rx =
     let at-check-and-clear-error-flags = at-c .before .before .before .before in
     let at-loop = at-check-and-clear-error-flags .before .before in
     ends-well
-    (read-step (check-step (at-loop .loop .inv .0 s rx) (at-check-and-clear-error-flags .check-and-clear-error-flags .ensures rx) check-master-checks (at-c .c .given .1) refl) (at-read .read .ensures rx) refl refl refl (at-t .t .given .1)
+    (read-step (check-step (at-loop .loop .inv .0 s rx) (at-check-and-clear-error-flags .check-and-clear-error-flags .ensures rx) check-master-checks (at-c .c .given .1) refl)
+    (at-read .read .ensures rx) refl refl refl (at-t .t .given .1)
     (cond-false [] _ (sym (at-has .has .ensures) ∙ at-if1 .if1 .left) ∙ cond-true [] _ (sym (c .before .has2 .ensures) ∙ c .if2 .taken)))
 
 loop-less : tie.Need-loop-less Inv-loop μ-loop
@@ -80,7 +84,8 @@ loop-again c =
     let at-c = at-read .before .before .before in
     let at-check-and-clear-error-flags = at-c .before .before .before .before in
     let at-loop = at-check-and-clear-error-flags .before .before in (
-      (λ s rx. read-step (check-step (at-loop .loop .inv .0 s rx) (at-check-and-clear-error-flags .check-and-clear-error-flags .ensures rx) check-master-checks (at-c .c .given .1) refl) (at-read .read .ensures rx) refl refl refl (at-t .t .given .1)
+      (λ s rx. read-step (check-step (at-loop .loop .inv .0 s rx) (at-check-and-clear-error-flags .check-and-clear-error-flags .ensures rx) check-master-checks
+          (at-c .c .given .1) refl) (at-read .read .ensures rx) refl refl refl (at-t .t .given .1)
           (cond-false [] _ (sym (at-has .has .ensures) ∙ at-if1 .if1 .left) ∙ cond-false [] _ (sym (c .before .has2 .ensures) ∙ c .if2 .left))),
       omega (arith, at-check-and-clear-error-flags .check-and-clear-error-flags .kept, at-read .read .kept),
     )

@@ -23,14 +23,16 @@ returns : tie.Need-returns Inv-loop μ-loop
 returns c s rx =
     let at-check-and-clear-error-flags = c .before .before .before .before in
     let at-loop = at-check-and-clear-error-flags .before .before in
-    rw (c .check-outcome .ensures) (check-stops (at-loop .loop .inv .0 s rx) (at-check-and-clear-error-flags .check-and-clear-error-flags .ensures rx) check-checks (c .before .match .keys2))
+    rw (c .check-outcome .ensures) (check-stops (at-loop .loop .inv .0 s rx) (at-check-and-clear-error-flags .check-and-clear-error-flags .ensures rx) check-checks
+    (c .before .match .keys2))
 
 returns-2 : tie.Need-returns-2 Inv-loop μ-loop
 returns-2 c s rx =
     let at-c = c .before .before .before in
     let at-check-and-clear-error-flags = at-c .before .before .before .before in
     let at-loop = at-check-and-clear-error-flags .before .before in
-    ends-well (check-step (at-loop .loop .inv .0 s rx) (at-check-and-clear-error-flags .check-and-clear-error-flags .ensures rx) check-checks (at-c .c .given .1) (cond-true [] _ (sym (c .before .has .ensures) ∙ c .if1 .taken)))
+    ends-well (check-step (at-loop .loop .inv .0 s rx) (at-check-and-clear-error-flags .check-and-clear-error-flags .ensures rx) check-checks (at-c .c .given .1)
+    (cond-true [] _ (sym (c .before .has .ensures) ∙ c .if1 .taken)))
 
 loop-less : tie.Need-loop-less Inv-loop μ-loop
 loop-less c =
@@ -41,7 +43,8 @@ loop-again c =
     let at-c = c .before .before .before in
     let at-check-and-clear-error-flags = at-c .before .before .before .before in
     let at-loop = at-check-and-clear-error-flags .before .before in (
-      (λ s rx. check-step (at-loop .loop .inv .0 s rx) (at-check-and-clear-error-flags .check-and-clear-error-flags .ensures rx) check-checks (at-c .c .given .1) (cond-false [] _ (sym (c .before .has .ensures) ∙ c .if1 .left))),
+      (λ s rx. check-step (at-loop .loop .inv .0 s rx) (at-check-and-clear-error-flags .check-and-clear-error-flags .ensures rx) check-checks (at-c .c .given .1)
+          (cond-false [] _ (sym (c .before .has .ensures) ∙ c .if1 .left))),
       omega (arith, at-check-and-clear-error-flags .check-and-clear-error-flags .kept),
     )
 

@@ -33,17 +33,38 @@ returns-3 c = rw (none1 (c .before .before .before .before), none2 (c .before .b
 
 returns-4 : tie.Need-returns-4
 unfolding check-word
-returns-4 c = rw (none1 (c .before .before .before .before .before .before), none2 (c .before .before .before .before), none3 (c .before .before), sym (c .before .has4 .ensures) ∙ c .if4 .taken)
+returns-4 c =
+    rw (
+      none1 (c .before .before .before .before .before .before),
+      none2 (c .before .before .before .before),
+      none3 (c .before .before),
+      sym (c .before .has4 .ensures)
+          ∙ c .if4 .taken,
+    )
 
 returns-5 : tie.Need-returns-5
 unfolding check-word
 returns-5 c =
-    rw (none1 (c .before .before .before .before .before .before .before .before), none2 (c .before .before .before .before .before .before), none3 (c .before .before .before .before), none4 (c .before .before), sym (c .before .has5 .ensures) ∙ c .if5 .taken)
+    rw (
+      none1 (c .before .before .before .before .before .before .before .before),
+      none2 (c .before .before .before .before .before .before),
+      none3
+          (c .before .before .before .before),
+      none4 (c .before .before),
+      sym (c .before .has5 .ensures) ∙ c .if5 .taken,
+    )
 
 returns-6 : tie.Need-returns-6
 unfolding check-word
 returns-6 c =
-    rw (none1 (c .before .before .before .before .before .before .before .before), none2 (c .before .before .before .before .before .before), none3 (c .before .before .before .before), none4 (c .before .before), sym (c .before .has5 .ensures) ∙ c .if5 .left)
+    rw (
+      none1 (c .before .before .before .before .before .before .before .before),
+      none2 (c .before .before .before .before .before .before),
+      none3
+          (c .before .before .before .before),
+      none4 (c .before .before),
+      sym (c .before .has5 .ensures) ∙ c .if5 .left,
+    )
 
 pub first-error-spec : {M : Type 1} → statement M
 first-error-spec =

@@ -21,7 +21,8 @@ returns-3 c rx =
     let at-write2 = at-b .before .before .before .before in
     let at-a = at-write2 .before .before .before in
     let at-write = at-a .before .before .before .before in
-    write-stops (write-step (write-step here (at-write .write .ensures _ rx) refl (at-a .a .given .1)) (at-write2 .write2 .ensures _ rx) refl (at-b .b .given .1)) (at-write3 .write3 .ensures _ rx) refl (c .match3 .keys2)
+    write-stops (write-step (write-step here (at-write .write .ensures _ rx) refl (at-a .a .given .1)) (at-write2 .write2 .ensures _ rx) refl (at-b .b .given .1))
+    (at-write3 .write3 .ensures _ rx) refl (c .match3 .keys2)
 
 returns-4 : tie.Need-returns-4
 returns-4 c rx =
@@ -32,7 +33,8 @@ returns-4 c rx =
     let at-write2 = at-b .before .before .before .before in
     let at-a = at-write2 .before .before .before in
     let at-write = at-a .before .before .before .before in
-    call-last (write-step (write-step (write-step here (at-write .write .ensures _ rx) refl (at-a .a .given .1)) (at-write2 .write2 .ensures _ rx) refl (at-b .b .given .1)) (at-write3 .write3 .ensures _ rx) refl (at-c .c .given .1)) (at-modify-cr1 .modify-cr1 .ensures _ rx)
+    call-last (write-step (write-step (write-step here (at-write .write .ensures _ rx) refl (at-a .a .given .1)) (at-write2 .write2 .ensures _ rx) refl (at-b .b .given .1))
+    (at-write3 .write3 .ensures _ rx) refl (at-c .c .given .1)) (at-modify-cr1 .modify-cr1 .ensures _ rx)
 
 pub init-spec : {M : Type 1} → statement M
 init-spec =

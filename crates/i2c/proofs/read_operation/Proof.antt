@@ -43,7 +43,9 @@ returns-2 c s =
 
 -- the turn keeps the bytes received at most the readings used
 turned : (c : tie.After-known-told) → c .before .a .given .0 .0 .got ≤ c .before .a .given .0 .0 .used
-turned c = keeps-fewer (c .before .before .before .before .before .turn-read .ensures no-setup []) (c .before .a .given .1) (c .before .before .before .before .before .before .before .before .before .before .before .pre .1)
+turned c =
+    keeps-fewer (c .before .before .before .before .before .turn-read .ensures no-setup []) (c .before .a .given .1)
+    (c .before .before .before .before .before .before .before .before .before .before .before .pre .1)
 
 read-wo-prepare-requires : tie.Need-read-wo-prepare-requires
 read-wo-prepare-requires c κs = turned (c .before .before .before)
@@ -56,7 +58,9 @@ returns-3 c s =
     let at-turn-read = at-a .before .before .before .before in
     let at-if1 = at-turn-read .before .before in
     let at-start = at-if1 .before .before .before .before in
-    call-last (call-step (at-turn-read .turn-read .ensures s _) _ (rewritten (reads (at-start .args .early) (at-start .args .count) _ _ _ (at-if1 .if1 .left) (at-if2 .if2 .taken)) here) (at-a .a .given .1)) (at-read-wo-prepare .read-wo-prepare .ensures s)
+    call-last (call-step (at-turn-read .turn-read .ensures s _) _
+    (rewritten (reads (at-start .args .early) (at-start .args .count) _ _ _ (at-if1 .if1 .left) (at-if2 .if2 .taken)) here) (at-a .a .given .1))
+    (at-read-wo-prepare .read-wo-prepare .ensures s)
 
 read-bytes-requires : tie.Need-read-bytes-requires
 read-bytes-requires c κs = turned (c .before .before .before)
@@ -69,7 +73,9 @@ returns-4 c s =
     let at-turn-read = at-a .before .before .before .before in
     let at-if1 = at-turn-read .before .before in
     let at-start = at-if1 .before .before .before .before in
-    call-last (call-step (at-turn-read .turn-read .ensures s _) _ (rewritten (reads (at-start .args .early) (at-start .args .count) _ _ _ (at-if1 .if1 .left) (at-if2 .if2 .left)) here) (at-a .a .given .1)) (at-read-bytes .read-bytes .ensures s)
+    call-last (call-step (at-turn-read .turn-read .ensures s _) _
+    (rewritten (reads (at-start .args .early) (at-start .args .count) _ _ _ (at-if1 .if1 .left) (at-if2 .if2 .left)) here) (at-a .a .given .1))
+    (at-read-bytes .read-bytes .ensures s)
 
 pub read-operation-spec : {M : Type 1} → statement M
 read-operation-spec =

@@ -36,7 +36,8 @@ returns-3 c s =
     let at-a = at-modify-cr1 .before .before .before in
     let at-read-bytes = at-a .before .before .before .before .before .before in
     let at-if1 = at-read-bytes .before .before .before in
-    call-stops (at-modify-cr1 .modify-cr1 .ensures s _) _ (call-step (at-read-bytes .read-bytes .ensures s) _ (rewritten (some-byte _ (at-if1 .if1 .left)) here) (at-a .a .given .1)) (c .match2 .keys2)
+    call-stops (at-modify-cr1 .modify-cr1 .ensures s _) _ (call-step (at-read-bytes .read-bytes .ensures s) _ (rewritten (some-byte _ (at-if1 .if1 .left)) here)
+    (at-a .a .given .1)) (c .match2 .keys2)
 
 read-bytes-requires-2 : tie.Need-read-bytes-requires-2
 read-bytes-requires-2 c κs =
@@ -56,7 +57,8 @@ returns-4 c s =
     let at-read-bytes = at-a .before .before .before .before .before .before in
     let at-if1 = at-read-bytes .before .before .before in
     call-stops (at-read-bytes2 .read-bytes2 .ensures s) _
-    (call-step (at-modify-cr1 .modify-cr1 .ensures s _) _ (call-step (at-read-bytes .read-bytes .ensures s) _ (rewritten (some-byte _ (at-if1 .if1 .left)) here) (at-a .a .given .1)) (at-b .b .given .1))
+    (call-step (at-modify-cr1 .modify-cr1 .ensures s _) _ (call-step (at-read-bytes .read-bytes .ensures s) _ (rewritten (some-byte _ (at-if1 .if1 .left)) here)
+    (at-a .a .given .1)) (at-b .b .given .1))
     (c .match3 .keys2)
 
 same-length-7 : tie.Need-same-length-7
@@ -79,7 +81,8 @@ returns-5 c s =
     let at-if1 = at-read-bytes .before .before .before in
     call-last
     (call-step (at-read-bytes2 .read-bytes2 .ensures s) _
-    (call-step (at-modify-cr1 .modify-cr1 .ensures s _) _ (call-step (at-read-bytes .read-bytes .ensures s) _ (rewritten (some-byte _ (at-if1 .if1 .left)) here) (at-a .a .given .1)) (at-b .b .given .1))
+    (call-step (at-modify-cr1 .modify-cr1 .ensures s _) _ (call-step (at-read-bytes .read-bytes .ensures s) _ (rewritten (some-byte _ (at-if1 .if1 .left)) here)
+    (at-a .a .given .1)) (at-b .b .given .1))
     (at-c .c .given .1))
     (at-until-stop-clear .until-stop-clear .ensures s _)
 

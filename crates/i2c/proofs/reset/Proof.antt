@@ -21,7 +21,8 @@ returns-3 c rx =
     let at-write2 = at-b .before .before .before .before in
     let at-a = at-write2 .before .before .before in
     let at-write = at-a .before .before .before .before in
-    call-last (write-step (write-step here (at-write .write .ensures _ rx) refl (at-a .a .given .1)) (at-write2 .write2 .ensures _ rx) refl (at-b .b .given .1)) (at-init .init .ensures rx)
+    call-last (write-step (write-step here (at-write .write .ensures _ rx) refl (at-a .a .given .1)) (at-write2 .write2 .ensures _ rx) refl (at-b .b .given .1))
+    (at-init .init .ensures rx)
 
 pub reset-spec : {M : Type 1} → statement M
 reset-spec =

@@ -29,7 +29,8 @@ returns-2 c s rx =
     let at-t = c .before .before .before in
     let at-read = at-t .before .before .before .before in
     let at-loop = at-read .before .before in
-    ends-well (read-step (at-loop .loop .inv .0 s rx) (at-read .read .ensures rx) refl refl refl (at-t .t .given .1) (next-flag s _ _ (sym (c .before .has .ensures) ∙ c .if1 .taken)))
+    ends-well (read-step (at-loop .loop .inv .0 s rx) (at-read .read .ensures rx) refl refl refl (at-t .t .given .1)
+    (next-flag s _ _ (sym (c .before .has .ensures) ∙ c .if1 .taken)))
 
 loop-less : tie.Need-loop-less Inv-loop μ-loop
 loop-less c = read-less (c .before .before .before .before .before .before .before .read .ensures []) (c .before .before .before .t .given .1)
@@ -39,7 +40,8 @@ loop-again c =
     let at-t = c .before .before .before in
     let at-read = at-t .before .before .before .before in
     let at-loop = at-read .before .before in (
-      (λ s rx. read-step (at-loop .loop .inv .0 s rx) (at-read .read .ensures rx) refl refl refl (at-t .t .given .1) (next-flag s _ _ (sym (c .before .has .ensures) ∙ c .if1 .left))),
+      (λ s rx. read-step (at-loop .loop .inv .0 s rx) (at-read .read .ensures rx) refl refl refl (at-t .t .given .1)
+          (next-flag s _ _ (sym (c .before .has .ensures) ∙ c .if1 .left))),
       omega (arith, at-read .read .kept),
     )
 

@@ -29,7 +29,8 @@ returns-2 c s rx =
     let at-t = c .before .before .before in
     let at-read = at-t .before .before .before .before in
     let at-loop = at-read .before .before in
-    ends-well (read-step (at-loop .loop .inv .0 s rx) (at-read .read .ensures rx) refl refl refl (at-t .t .given .1) (next-master s _ (sym (c .before .has .ensures) ∙ c .if1 .taken) refl))
+    ends-well (read-step (at-loop .loop .inv .0 s rx) (at-read .read .ensures rx) refl refl refl (at-t .t .given .1)
+    (next-master s _ (sym (c .before .has .ensures) ∙ c .if1 .taken) refl))
 
 returns-3 : tie.Need-returns-3 Inv-loop μ-loop
 returns-3 c s rx =
@@ -38,7 +39,8 @@ returns-3 c s rx =
     let at-t = at-has .before .before in
     let at-read = at-t .before .before .before .before in
     let at-loop = at-read .before .before in
-    ends-well (read-step (at-loop .loop .inv .0 s rx) (at-read .read .ensures rx) refl refl refl (at-t .t .given .1) (next-master s _ (sym (at-has .has .ensures) ∙ at-if1 .if1 .left) (sym (c .before .has2 .ensures) ∙ c .if2 .taken)))
+    ends-well (read-step (at-loop .loop .inv .0 s rx) (at-read .read .ensures rx) refl refl refl (at-t .t .given .1)
+    (next-master s _ (sym (at-has .has .ensures) ∙ at-if1 .if1 .left) (sym (c .before .has2 .ensures) ∙ c .if2 .taken)))
 
 loop-less : tie.Need-loop-less Inv-loop μ-loop
 loop-less c = read-less (c .before .before .before .before .before .before .before .before .before .read .ensures []) (c .before .before .before .before .before .t .given .1)
@@ -50,7 +52,8 @@ loop-again c =
     let at-t = at-has .before .before in
     let at-read = at-t .before .before .before .before in
     let at-loop = at-read .before .before in (
-      (λ s rx. read-step (at-loop .loop .inv .0 s rx) (at-read .read .ensures rx) refl refl refl (at-t .t .given .1) (next-master s _ (sym (at-has .has .ensures) ∙ at-if1 .if1 .left) (sym (c .before .has2 .ensures) ∙ c .if2 .left))),
+      (λ s rx. read-step (at-loop .loop .inv .0 s rx) (at-read .read .ensures rx) refl refl refl (at-t .t .given .1)
+          (next-master s _ (sym (at-has .has .ensures) ∙ at-if1 .if1 .left) (sym (c .before .has2 .ensures) ∙ c .if2 .left))),
       omega (arith, at-read .read .kept),
     )
 

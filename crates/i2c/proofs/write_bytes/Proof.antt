@@ -50,7 +50,8 @@ loop-again c =
     let at-send-byte = c .before .before .before .before .before in
     let at-loop-test = at-send-byte .before .before .before in
     let at-loop = at-loop-test .before in (
-      (λ s rx. call-step (at-send-byte .send-byte .ensures s rx) _ (rewritten (next-byte _ _ (at-loop-test .loop-test .taken)) (at-loop .loop .inv .0 s rx)) (c .before .o .given .1)),
+      (λ s rx. call-step (at-send-byte .send-byte .ensures s rx) _ (rewritten (next-byte _ _ (at-loop-test .loop-test .taken)) (at-loop .loop .inv .0 s rx))
+          (c .before .o .given .1)),
       omega (arith, at-send-byte .send-byte .kept),
       omega arith,
     )

@@ -27,7 +27,8 @@ returns-2 c early s rx =
     let at-if1 = at-write-wo-prepare .before .before in
     let at-a = at-if1 .before .before in
     let at-turn-write = at-a .before .before .before .before in
-    call-last (call-step (at-turn-write .turn-write .ensures s rx) _ (rewritten (writes early _ _ _ _ (at-if1 .if1 .taken)) here) (at-a .a .given .1)) (at-write-wo-prepare .write-wo-prepare .ensures s rx)
+    call-last (call-step (at-turn-write .turn-write .ensures s rx) _ (rewritten (writes early _ _ _ _ (at-if1 .if1 .taken)) here) (at-a .a .given .1))
+    (at-write-wo-prepare .write-wo-prepare .ensures s rx)
 
 returns-3 : tie.Need-returns-3
 returns-3 c early s rx =
@@ -35,7 +36,8 @@ returns-3 c early s rx =
     let at-if1 = at-write-bytes .before .before in
     let at-a = at-if1 .before .before in
     let at-turn-write = at-a .before .before .before .before in
-    call-last (call-step (at-turn-write .turn-write .ensures s rx) _ (rewritten (writes early _ _ _ _ (at-if1 .if1 .left)) here) (at-a .a .given .1)) (at-write-bytes .write-bytes .ensures s rx)
+    call-last (call-step (at-turn-write .turn-write .ensures s rx) _ (rewritten (writes early _ _ _ _ (at-if1 .if1 .left)) here) (at-a .a .given .1))
+    (at-write-bytes .write-bytes .ensures s rx)
 
 pub write-operation-spec : {M : Type 1} → statement M
 write-operation-spec =

@@ -20,7 +20,8 @@ returns-3 c s rx =
     let at-send-stop = at-b .before .before .before .before in
     let at-a = at-send-stop .before .before .before in
     let at-write-bytes = at-a .before .before .before .before in
-    call-last (call-step (at-send-stop .send-stop .ensures s rx) _ (call-step (at-write-bytes .write-bytes .ensures s rx) _ here (at-a .a .given .1)) (at-b .b .given .1)) (at-until-stop-clear .until-stop-clear .ensures s rx)
+    call-last (call-step (at-send-stop .send-stop .ensures s rx) _ (call-step (at-write-bytes .write-bytes .ensures s rx) _ here (at-a .a .given .1)) (at-b .b .given .1))
+    (at-until-stop-clear .until-stop-clear .ensures s rx)
 
 pub write-wo-prepare-spec : {M : Type 1} → statement M
 write-wo-prepare-spec =

@@ -7,7 +7,10 @@ use Rattle.registers.proofs.get.Tie as tie
 
 returns : tie.Need-returns
 unfolding next
-returns c s rx = rw (c .outcome-of .ensures) (read-last here (c .before .before .before .read .ensures rx) refl (c .before .before .before .before .before .before .before .pre .0) (c .before .before .before .before .before .before .before .pre .1) (λ v. refl))
+returns c s rx =
+    let at-read = c .before .before .before in
+    let at-start = at-read .before .before .before .before in
+    rw (c .outcome-of .ensures) (read-last here (at-read .read .ensures rx) refl (at-start .pre .0) (at-start .pre .1) (λ v. refl))
 
 pub get-spec : {M : Type 1} → statement M
 get-spec =

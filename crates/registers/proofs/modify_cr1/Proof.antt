@@ -19,10 +19,20 @@ returns : tie.Need-returns
 returns c s rx = rw (c .outcome-of .ensures) (read-stops here (c .before .before .before .before .before .read .ensures rx) refl refl (c .before .enum-told .given .1))
 
 altered-requires : tie.Need-altered-requires
-altered-requires c κs = (read-small (c .before .before .before .before .before .before .read .ensures []) refl (c .before .before .t .given .1), c .before .before .before .before .before .before .before .before .before .before .pre .0, c .before .before .before .before .before .before .before .before .before .before .pre .1)
+altered-requires c κs =
+    let at-t = c .before .before in
+    let at-read = at-t .before .before .before .before in
+    let at-start = at-read .before .before .before .before in
+    (read-small (at-read .read .ensures []) refl (at-t .t .given .1), at-start .pre .0, at-start .pre .1)
 
 returns-2 : tie.Need-returns-2
-returns-2 c s rx = write-last (read-step here (c .before .before .before .before .before .before .before .before .before .before .read .ensures rx) refl refl refl (c .before .before .before .before .before .before .t .given .1) (altered-is s _ _ _ _ (c .before .before .before .altered .ensures))) (c .before .before .write .ensures _ rx) refl
+returns-2 c s rx =
+    let at-write = c .before .before in
+    let at-altered = at-write .before in
+    let at-t = at-altered .before .before .before in
+    let at-read = at-t .before .before .before .before in
+    write-last (read-step here (at-read .read .ensures rx) refl refl refl (at-t .t .given .1) (altered-is s _ _ _ _ (at-altered .altered .ensures)))
+    (at-write .write .ensures _ rx) refl
 
 pub modify-cr1-spec : {M : Type 1} → statement M
 modify-cr1-spec =

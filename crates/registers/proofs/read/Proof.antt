@@ -17,10 +17,25 @@ put-entry-requires : tie.Need-put-entry-requires
 put-entry-requires c κs = leb-false _ _ (sym (c .before .before .before .before .before .full .ensures) ∙ c .before .before .before .before .if1 .left)
 
 add-t22 : tie.Need-add-t22
-add-t22 c = let e = sym (c .before .before .before .before .before .before .before .before .full .ensures) ∙ c .before .before .before .before .before .before .before .if1 .left in omega (arith, leb-false)
+add-t22 c =
+    let at-if1 = c .before .before .before .before .before .before .before in
+    let at-full = at-if1 .before in
+    let e = sym (at-full .full .ensures) ∙ at-if1 .if1 .left in omega (arith, leb-false)
 
 returns-3 : tie.Need-returns-3
-returns-3 c rx = record { is = read-done _ _ _ _ _ _ _ (c .before .before .before .before .before .before .before .before .before .before .before .before .pre) (leb-false _ _ (sym (c .before .before .before .before .before .before .before .before .full .ensures) ∙ c .before .before .before .before .before .before .before .if1 .left)) (c .before .before .before .before .before .before .if2 .left) (⊎-elim (λ w. w .1 ∙ cut-register _ _ (w .0 .taken)) (λ w. w .1 ∙ cut-cycles _ _ (w .0 .left) (c .before .before .before .before .before .shared-slice-known2 .given _ .fits)) (c .before .before .before .before .if3 .came)) (c .before .before .put-entry .ensures) }
+returns-3 c rx =
+    let at-put-entry = c .before .before in
+    let at-if3 = at-put-entry .before .before in
+    let at-shared-slice-known2 = at-if3 .before in
+    let at-if2 = at-shared-slice-known2 .before in
+    let at-if1 = at-if2 .before in
+    let at-full = at-if1 .before in
+    let at-start = at-full .before .before .before .before in
+    record {
+      is = read-done _ _ _ _ _ _ _ (at-start .pre) (leb-false _ _ (sym (at-full .full .ensures) ∙ at-if1 .if1 .left)) (at-if2 .if2 .left)
+          (⊎-elim (λ w. w .1 ∙ cut-register _ _ (w .0 .taken)) (λ w. w .1 ∙ cut-cycles _ _ (w .0 .left) (at-shared-slice-known2 .shared-slice-known2 .given _ .fits)) (at-if3 .if3 .came))
+          (at-put-entry .put-entry .ensures);
+    }
 
 pub read-spec : {M : Type 1} → statement M
 read-spec =

@@ -21,7 +21,10 @@ same-length-3 c = ⊎-elim (λ w. ap length (w .1) ∙ simp length-set) (λ w. a
 
 returns-2 : tie.Need-returns-2
 unfolding received
-returns-2 c s = data-step (c .before .before .before .before .before .before .read .ensures _) (c .before .before .t .given .1) (⊎-elim (λ w. rw (w .1)) (λ w. rw (w .1, set-out _ _ _ (w .0 .left))) (c .if1 .came))
+returns-2 c s =
+    let at-t = c .before .before in
+    let at-read = at-t .before .before .before .before in
+    data-step (at-read .read .ensures _) (at-t .t .given .1) (⊎-elim (λ w. rw (w .1)) (λ w. rw (w .1, set-out _ _ _ (w .0 .left))) (c .if1 .came))
 
 pub read-data-spec : {M : Type 1} → statement M
 read-data-spec =

@@ -16,7 +16,12 @@ add-t15 : tie.Need-add-t15
 add-t15 c = let e = sym (c .before .before .before .before .before .full .ensures) ∙ c .before .before .before .before .if1 .left in omega (arith, leb-false)
 
 returns-2 : tie.Need-returns-2
-returns-2 c rs rx = record { is = write-done _ _ _ _ _ _ _ (c .before .before .before .before .before .before .before .before .pre) (leb-false _ _ (sym (c .before .before .before .before .before .full .ensures) ∙ c .before .before .before .before .if1 .left)) (c .before .before .put-entry .ensures) }
+returns-2 c rs rx =
+    let at-put-entry = c .before .before in
+    let at-if1 = at-put-entry .before .before in
+    let at-full = at-if1 .before in
+    let at-start = at-full .before .before .before in
+    record { is = write-done _ _ _ _ _ _ _ (at-start .pre) (leb-false _ _ (sym (at-full .full .ensures) ∙ at-if1 .if1 .left)) (at-put-entry .put-entry .ensures) }
 
 pub write-spec : {M : Type 1} → statement M
 write-spec =

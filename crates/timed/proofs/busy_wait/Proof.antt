@@ -36,7 +36,8 @@ returns c s h rx =
     let at-flagged = at-clear-flag .before .before .before in
     let at-poll-error = at-flagged .before .before in
     let at-loop = at-poll-error .before .before .before in
-    rw (c .failed-poll .ensures) (wait-failed _ _ _ _ (at-loop .loop .inv .0 s h rx) (sym (at-poll-error .poll-error .ensures) ∙ at-flagged .flagged .given .1) (at-clear-flag .clear-flag .ensures _ rx))
+    rw (c .failed-poll .ensures) (wait-failed _ _ _ _ (at-loop .loop .inv .0 s h rx) (sym (at-poll-error .poll-error .ensures) ∙ at-flagged .flagged .given .1)
+    (at-clear-flag .clear-flag .ensures _ rx))
 
 returns-2 : tie.Need-returns-2 Inv-loop μ-loop
 returns-2 c s h rx =
@@ -82,7 +83,8 @@ returns-4 c s h rx =
     let at-start = at-loop .before .before .before in
     let late = rewritten (next-waits s _ _ h _ _ (sym (at-wait-over .wait-over .ensures) ∙ not-true _ (at-if1 .if1 .taken)) (sym (at-poll-error .poll-error .ensures) ∙ at-enum-told .enum-told .given .1)) (at-loop .loop .inv .0 s h rx) in
     let poll = read-step late (at-read .read .ensures rx) refl refl refl (at-c .c .given .1) (next-late s _ _ h _ _ (sym (at-timed-out .timed-out .ensures) ∙ at-if2 .if2 .left)) in
-    rw (c .outcome-of2 .ensures) (wait-none poll (rw (at-polled-register .polled-register .ensures) at (at-read2 .read2 .ensures rx)) refl (polled-read (at-start .args .awaited)) (c .before .enum-told3 .given .1))
+    rw (c .outcome-of2 .ensures) (wait-none poll (rw (at-polled-register .polled-register .ensures) at (at-read2 .read2 .ensures rx)) refl (polled-read (at-start .args .awaited))
+    (c .before .enum-told3 .given .1))
 
 loop-less : tie.Need-loop-less Inv-loop μ-loop
 loop-less c =

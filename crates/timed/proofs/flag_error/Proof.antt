@@ -30,11 +30,25 @@ returns-3 c = rw (none1 (c .before .before .before .before), none2 (c .before .b
 
 returns-4 : tie.Need-returns-4
 unfolding poll-word
-returns-4 c = rw (none1 (c .before .before .before .before .before .before), none2 (c .before .before .before .before), none3 (c .before .before), sym (c .before .has4 .ensures) ∙ c .if4 .taken)
+returns-4 c =
+    rw (
+      none1 (c .before .before .before .before .before .before),
+      none2 (c .before .before .before .before),
+      none3 (c .before .before),
+      sym (c .before .has4 .ensures)
+          ∙ c .if4 .taken,
+    )
 
 returns-5 : tie.Need-returns-5
 unfolding poll-word
-returns-5 c = rw (none1 (c .before .before .before .before .before .before), none2 (c .before .before .before .before), none3 (c .before .before), sym (c .before .has4 .ensures) ∙ c .if4 .left)
+returns-5 c =
+    rw (
+      none1 (c .before .before .before .before .before .before),
+      none2 (c .before .before .before .before),
+      none3 (c .before .before),
+      sym (c .before .has4 .ensures)
+          ∙ c .if4 .left,
+    )
 
 pub flag-error-spec : {M : Type 1} → statement M
 flag-error-spec =
