@@ -10,12 +10,11 @@ use Rattle.buslist.specs.Table.{settings-of}
 use Rattle.buslist.specs.Meaning.{Call, calls-of}
 use Rattle.registers.specs.declared.Entry.{Entry}
 use Rattle.registers.specs.Access.{entries-in, record-of}
-use Rattle.registers.specs.Machine.{Run, whole-run}
+use Rattle.registers.specs.Machine.{WholeRun, whole-run}
 use Rattle.engine.specs.Calls.{steps-of}
 use Rattle.engine.specs.Run.{accepted-run, result, run}
 use Rattle.engine.specs.Compare.{idle, polls-empty-read, settings-words, Accepted, Demand3}
 use Rattle.engine.proofs.Same.{same-steps}
-use Rattle.engine.proofs.Whole.{answer-well}
 use Rattle.engine.proofs.Reduced.{told-apart}
 use Rattle.engine.proofs.Listed.{of-kind, each-fails, sound}
 
@@ -37,7 +36,7 @@ unfolding settings-of
 same-settings l m e = cc
 
 -- the run of calls with settings
-abbrev run-of-calls : Settings → List Call → ℕ → List ℕ → Run
+abbrev run-of-calls : Settings → List Call → ℕ → List ℕ → WholeRun
 run-of-calls settings calls words readings = whole-run (setup-of settings) (map (steps-of (setup-of settings)) calls) (entries-in words) readings
 
 -- an accepted list is run, with settings that are its own
@@ -57,7 +56,7 @@ demand-3 =
           told-apart (setup-of (settings-of m)) (calls-of l) (calls-of m) (of-kind l rx ok) (of-kind m rx′ ok′)
           (each-fails idle (calls-of l) (c .busy)) (each-fails idle (calls-of m) (c .busy′))
           (entries-in words) (entries-in words′) readings readings′
-          (answer-well _ (rw r at ends)) (answer-well _ (rw r′ at ends′)) (record-injective _ _ (rw (r, r′) at same));
+          (rw r at ends) (rw r′ at ends′) (record-injective _ _ (rw (r, r′) at same));
       same-run = λ l m c same full full′ readings rx words ok ok′.
           let s = same-settings l m (c .settings) in
           let hl = sound (of-kind l rx ok) (each-fails polls-empty-read (calls-of l) full) in

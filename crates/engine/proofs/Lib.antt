@@ -1,5 +1,6 @@
 pub mod RunLaws
 pub mod Plan
+pub mod Goes
 pub mod Received
 pub mod Result
 pub mod CallLaws
@@ -8,7 +9,6 @@ pub mod Shape
 pub mod Same
 pub mod Trace
 pub mod Apart
-pub mod Whole
 pub mod Reduced
 pub mod Listed
 pub mod Demand3

@@ -4,7 +4,7 @@ use Prim.Native.Nat.{ℕ, _-_, _≤_}
 use native.Mathlib.Omega.{arith}
 use native.Mathlib.Nat.{zero-add}
 use mathlib.Core.Path.{_≡_, refl, sym, ap, _∙_}
-use mathlib.Core.List.{List, map}
+use mathlib.Core.List.{List, map, flatten}
 use lib.ListN.{length}
 use lib.Seq.{sets}
 use borrow.Author.Tests.{eq-eqb, ne-eqb}
@@ -16,18 +16,19 @@ use Rattle.buslist.specs.Meaning.{calls-of}
 use Rattle.registers.specs.declared.Progress.{Progress}
 use Rattle.registers.specs.declared.Outcome.{Outcome}
 use Rattle.registers.specs.Access.{entries-in, record-of, received-of, reads, number}
-use Rattle.registers.specs.Machine.{Step, Run, whole-run, bring-up}
+use Rattle.registers.specs.Machine.{Step, bring-up, flat, WholeRun, whole-run}
 use Rattle.registers.specs.State.{at, room, left, resume}
 use Rattle.engine.specs.Calls.{steps-of}
 use Rattle.engine.specs.Whole.{nothing-yet, Final, after-calls, calls-run, progress-of, ended-counts, final}
 use Rattle.engine.specs.Run.{run, result, accepted-run, counts-of, filled, Meant, RunsTo}
-use Rattle.engine.proofs.RunLaws.{final-of, whole-run-is, replay-is, filled-is, record-length, whole-room}
+use Rattle.engine.proofs.RunLaws.{final-of, whole-run-is, replay-is, filled-is, record-length}
+use Rattle.engine.proofs.Goes.{whole-goes, goes-room}
 use Rattle.engine.proofs.Received.{received-fits}
 
 -- a refused list: the refusal, no access, and nothing changed
 pub refused-meant : (l rs rx lg : List ℕ) → (refusal l (length rx) ≡ 0 → ⊥)
     → RunsTo l rs rx lg rx lg (record { answer = refusal l (length rx); calls = 0; used = 0; made = 0; got = 0 })
-unfolding run result counts-of filled record-of received-of reads
+unfolding run result counts-of filled record-of received-of reads flatten
 refused-meant l rs rx lg h =
     record { counts = rw (ne-eqb _ _ h); received = rw (ne-eqb _ _ h); recorded = rw (ne-eqb _ _ h) }
 
@@ -48,7 +49,8 @@ unfolding run result accepted-run counts-of
 accepted-meant l rs rx lg {rx′} {lg′} k o ok t f e′ =
     let e = rw f at e′ in
     rw (eq-eqb _ _ ok)
-    (go (whole-run s cs (entries-in (length lg)) rs) (received-fits l (length rx) ok s (entries-in (length lg)) rs) (whole-room s cs (entries-in (length lg)) rs)
+    (go (whole-run s cs (entries-in (length lg)) rs) (received-fits l (length rx) ok s (entries-in (length lg)) rs)
+    (goes-room (whole-goes s (calls-of l) (entries-in (length lg)) rs))
     (sym e ∙ whole-run-is s cs (at rs lg rx nothing-yet) ∙ rw (room-start rs lg rx, left-start rs lg rx)))
   where
     s : Setup
@@ -57,24 +59,24 @@ accepted-meant l rs rx lg {rx′} {lg′} k o ok t f e′ =
     cs : List (List Step)
     cs = map (steps-of s) (calls-of l)
 
-    go : (r : Run) → length (received-of (r .log)) ≤ length rx → length (r .log) ≤ entries-in (length lg)
-        → final rs lg′ rx′ k o ≡ final-of (at rs lg rx nothing-yet) r
+    go : (r : WholeRun) → length (received-of (flat (r .log))) ≤ length rx → length (flat (r .log)) ≤ entries-in (length lg)
+        → final rs lg′ rx′ k o ≡ final-of (at rs lg rx nothing-yet) (r .ending) (r .calls) (flat (r .log))
         → Meant (record { answer = number (r .ending); calls = r .calls; log = r .log }) rx lg rx′ lg′ (ended-counts o k)
     go r fits room e =
+        let log = flat (r .log) in
         let f : at rs lg′ rx′ (progress-of o)
-        ≡ at rs (sets lg 0 (record-of (r .log))) (sets rx 0 (received-of (r .log)))
-        (record { used = reads (r .log); made = length (r .log); got = length (received-of (r .log)) })
-        = ap (λ (z : Final). z .state) e ∙ replay-is (r .log) rs lg rx nothing-yet ∙ simp zero-add in
-        let b : progress-of o ≡ record { used = reads (r .log); made = length (r .log); got = length (received-of (r .log)) } = cc in
+        ≡ at rs (sets lg 0 (record-of log)) (sets rx 0 (received-of log)) (record { used = reads log; made = length log; got = length (received-of log) })
+        = ap (λ (z : Final). z .state) e ∙ replay-is log rs lg rx nothing-yet ∙ simp zero-add in
+        let b : progress-of o ≡ record { used = reads log; made = length log; got = length (received-of log) } = cc in
         let n = ap (λ (z : Final). number (z .ending)) e in
         let c = ap (λ (z : Final). z .calls) e in
         let u = ap (λ (z : Progress). z .used) b in
         let m = ap (λ (z : Progress). z .made) b in
         let g = ap (λ (z : Progress). z .got) b in
-        let lg-is : lg′ ≡ sets lg 0 (record-of (r .log)) = cc in
-        let rx-is : rx′ ≡ sets rx 0 (received-of (r .log)) = cc in
+        let lg-is : lg′ ≡ sets lg 0 (record-of log) = cc in
+        let rx-is : rx′ ≡ sets rx 0 (received-of log) = cc in
         record {
           counts = cc;
-          received = rx-is ∙ filled-is rx (received-of (r .log)) fits;
-          recorded = lg-is ∙ filled-is lg (record-of (r .log)) (omega (arith, record-length (r .log)));
+          received = rx-is ∙ filled-is rx (received-of log) fits;
+          recorded = lg-is ∙ filled-is lg (record-of log) (omega (arith, record-length log));
         }

@@ -4,7 +4,7 @@ use Prim.Native.Nat.{ℕ, _+_, _*_}
 use native.Mathlib.Omega.{arith}
 use mathlib.Core.Bool.{false}
 use mathlib.Core.Path.{_≡_, refl, ap}
-use mathlib.Core.List.{List, [], _∷_}
+use mathlib.Core.List.{List, [], _∷_, flatten}
 use Rattle.units.specs.Setup.{setup-of}
 use Rattle.buslist.specs.Bytes.{byte, half, word}
 use Rattle.buslist.specs.Table.{settings-of, call-at, operation-at, entries}
@@ -13,7 +13,7 @@ use Rattle.buslist.specs.Refusal.{any, over-limit, timeout-out, received, all-r
 use Rattle.buslist.specs.Meaning.{Operation, write, read, operation-of, calls-of}
 use Rattle.registers.specs.Word.{has}
 use Rattle.registers.specs.Access.{cut, record-of, reads, number}
-use Rattle.registers.specs.Machine.{check-word, after-check, poll-word, start, poll-error, poll-ready, after-poll, next, perform, exec-on, exec, after-call, after-bring-up, whole-run}
+use Rattle.registers.specs.Machine.{check-word, after-check, poll-word, start, poll-error, poll-ready, after-poll, next, perform, exec-on, exec, after-call, after-bring-up, flat, whole-run}
 use Rattle.registers.specs.Machine as Machine
 use Rattle.i2c.specs.Polling.{write-bytes, last-read, turn-write, turn-read, turn, transfer, polling-steps}
 use Rattle.blocking.specs.Blocking.{later-bytes, write-bytes-and-wait, write-without-stop, read-steps, close-after, blocking-steps}
@@ -79,7 +79,7 @@ unfolding refusal causes first-cause over-limit timeout-out any received all-rec
 compared l rx = refusal l rx
 
 performed : List ℕ → List ℕ → ℕ
-unfolding run result accepted-run counts-of setup-of whole-run after-bring-up Machine.run after-call exec exec-on perform next has cut record-of reads number check-word after-check poll-word poll-error poll-ready after-poll start steps-of operations-steps early polling-steps turn turn-write turn-read transfer write-bytes last-read blocking-steps later-bytes write-bytes-and-wait write-without-stop read-steps close-after compared
+unfolding run result accepted-run counts-of setup-of whole-run flatten after-bring-up Machine.run after-call exec exec-on perform next has cut record-of reads number check-word after-check poll-word poll-error poll-ready after-poll start steps-of operations-steps early polling-steps turn turn-write turn-read transfer write-bytes last-read blocking-steps later-bytes write-bytes-and-wait write-without-stop read-steps close-after compared
 performed l readings = run l readings 0 100 .answer
 
 -- two unlike lists that are compared, with equal reduced calls
@@ -173,6 +173,6 @@ pub one-run : {l m readings : List ℕ} → Alike l m → EndWell l m readings �
 one-run a e = demand-3 .same-run _ _ (a .comparable) (a .equal-calls) (e .full) (e .full′) _ 0 100 (a .accepted) (a .accepted′)
 
 -- and the records of two unlike lists differ
-pub unlike-records : {l m readings : List ℕ} → Unlike l m readings → record-of (run l readings 0 100 .log) ≡ record-of (run m readings 0 100 .log) → ⊥
+pub unlike-records : {l m readings : List ℕ} → Unlike l m readings → record-of (flat (run l readings 0 100 .log)) ≡ record-of (flat (run m readings 0 100 .log)) → ⊥
 unlike-records u e =
     u .unlike-calls (demand-3 .told-apart _ _ (u .comparable) _ _ 0 0 100 100 (u .accepted) (u .accepted′) (u .ends) (u .ends′) e)

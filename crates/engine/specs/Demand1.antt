@@ -8,7 +8,8 @@ use lib.Dec.{leb}
 use Rattle.buslist.specs.Refusal.{refusal}
 use Rattle.registers.specs.declared.Entry.{Entry}
 use Rattle.registers.specs.Access.{is-read, cut, entries-in, record-of, received-of, reads}
-use Rattle.engine.specs.Run.{run, filled}
+use Rattle.registers.specs.Machine.{flat}
+use Rattle.engine.specs.Run.{Result, run, filled}
 
 -- the numbers of document 01's table: 0 to 10, and 20 to 26
 abbrev pub known : ℕ → Bool
@@ -25,17 +26,24 @@ unfoldable pub answered : List Entry → List ℕ → List Entry
 answered [] rs = []
 answered (e ∷ es) rs = answer (is-read (e .code)) e (answered es) rs
 
--- what holds of the run of a list on readings, with a received buffer of rx bytes and a record of so many words
-pub record Demand1 (list readings : List ℕ) (rx words : ℕ) : Type 0 where
-  -- every run's answer is one of document 01's numbers
-  pub answer : known (run list readings rx words .answer) ≡ true
-  -- a refused list gets its cause, makes no access, has zero counts and changes no buffer
-  pub refused : (refusal list rx ≡ 0 → ⊥) → (run list readings rx words .answer ≡ refusal list rx) × (run list readings rx words .calls ≡ 0) × (run list readings rx words .log ≡ [])
-  pub unchanged : (refusal list rx ≡ 0 → ⊥) → (buffer : List ℕ)
-      → (filled buffer (record-of (run list readings rx words .log)) ≡ buffer) × (filled buffer (received-of (run list readings rx words .log)) ≡ buffer)
-  -- the readings used are the ones taken
-  pub taken : answered (run list readings rx words .log) readings ≡ run list readings rx words .log
-  -- every run ends: with at most half as many accesses as record words, no more readings than given, no more bytes than the buffer
-  pub accesses : length (run list readings rx words .log) ≤ entries-in words
-  pub used : reads (run list readings rx words .log) ≤ length readings
-  pub got : length (received-of (run list readings rx words .log)) ≤ rx
+module _ (list readings : List ℕ) (rx words : ℕ) where
+  -- the run of a list on readings, with a received buffer of rx bytes and a record of so many words, and its accesses
+  abbrev pub ran : Result
+  ran = run list readings rx words
+
+  abbrev pub log : List Entry
+  log = flat (ran .log)
+
+  -- what holds of it
+  pub record Demand1 : Type 0 where
+    -- every run's answer is one of document 01's numbers
+    pub answer : known (ran .answer) ≡ true
+    -- a refused list gets its cause, makes no access, has zero counts and changes no buffer
+    pub refused : (refusal list rx ≡ 0 → ⊥) → (ran .answer ≡ refusal list rx) × (ran .calls ≡ 0) × (log ≡ [])
+    pub unchanged : (refusal list rx ≡ 0 → ⊥) → (buffer : List ℕ) → (filled buffer (record-of log) ≡ buffer) × (filled buffer (received-of log) ≡ buffer)
+    -- the readings used are the ones taken
+    pub taken : answered log readings ≡ log
+    -- every run ends: with no more accesses than fit the record, no more readings than given, no more bytes than the buffer
+    pub accesses : length log ≤ entries-in words
+    pub used : reads log ≤ length readings
+    pub got : length (received-of log) ≤ rx
