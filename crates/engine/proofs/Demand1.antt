@@ -1,60 +1,49 @@
 -- Demand 1.
 -- Assumes nothing.
-use Prim.Native.Nat.{ℕ, zero, suc, _≤_}
+use Prim.Native.Nat.{ℕ, zero, suc, _≤_, _<_}
 use native.Mathlib.Omega.{arith}
-use mathlib.Core.Bool.{Bool, true, false, cond, _&&_, and-eq-true-iff}
-use mathlib.Core.Path.{_≡_, refl}
-use mathlib.Core.List.{List, [], _∷_, flatten}
-use lib.ListN.{length}
-use lib.Dec.{eqb·suc-zero}
-use borrow.Author.Tests.{ne-eqb}
+use native.Mathlib.Numerals.{add-one}
+use mathlib.Core.Bool.{Bool, true, false, cond, and-eq-true-iff, or-true}
+use mathlib.Core.Path.{_≡_, refl, ap, _∙_}
+use mathlib.Core.List.{List, [], _∷_, _++_, flatten}
+use lib.ListN.{length, take, length-map}
+use borrow.Author.Tests.{leb-true, le-leb, ne-eqb}
 use Rattle.units.specs.declared.Setup.{Setup}
 use Rattle.units.specs.Setup.{setup-of}
 use Rattle.buslist.specs.Table.{settings-of}
 use Rattle.buslist.specs.Refusal.{refusal, causes, first-cause, Cause}
 use Rattle.buslist.specs.Meaning.{calls-of}
-use Rattle.registers.specs.declared.BusError.{BusError}
-use Rattle.registers.specs.declared.Source.{Source}
-use Rattle.registers.specs.declared.Cut.{Cut}
 use Rattle.registers.specs.declared.Entry.{Entry}
 use Rattle.registers.specs.Access.{Ending, is-read, cut, entries-in, record-of, received-of, reads, number}
-use Rattle.registers.specs.Machine.{Step, flat}
+use Rattle.registers.specs.Machine.{Step, perform, no-room, exec, exec-on, exec-full, bring-up, Run, after-call, after-bring-up, whole-run, run as calls}
+use Rattle.engine.specs.Calls.{steps-of}
 use Rattle.engine.specs.Run.{run, result, accepted-run, filled}
-use Rattle.engine.specs.Demand1.{known, answer, answered, log, Demand1}
-use Rattle.engine.proofs.Goes.{Goes, done, halted, full, dry, wrote, took, whole-goes, goes-room}
+use Rattle.engine.specs.Demand1.{is-cause, answer, answered, Demand1}
+use Rattle.engine.proofs.Shape.{All, none, more}
+use Rattle.engine.proofs.Goes.{Goes, done, halted, full, dry, wrote, took, error-number, cut-number, whole-goes, goes-room}
 use Rattle.engine.proofs.Received.{received-fits}
 
-number-known : (e : Ending) → known (number e) ≡ true
+-- a run's number is at most 10
+number-small : (e : Ending) → number e ≤ 10
 unfolding number
-number-known Ending.well = refl
-number-known (Ending.failed BusError.Overrun) = refl
-number-known (Ending.failed (BusError.NoAcknowledge Source.Address)) = refl
-number-known (Ending.failed (BusError.NoAcknowledge Source.Data)) = refl
-number-known (Ending.failed (BusError.NoAcknowledge Source.Unknown)) = refl
-number-known (Ending.failed BusError.Timeout) = refl
-number-known (Ending.failed BusError.Bus) = refl
-number-known (Ending.failed BusError.Crc) = refl
-number-known (Ending.failed BusError.ArbitrationLoss) = refl
-number-known (Ending.cut-short Cut.NoReadings) = refl
-number-known (Ending.cut-short Cut.NoRecord) = refl
+number-small Ending.well = omega arith
+number-small (Ending.failed e) = omega (arith, error-number e)
+number-small (Ending.cut-short c) = cut-number c .1
 
 -- the first cause is one of the causes, or 0
-all-known : List Cause → Bool
-all-known [] = true
-all-known (c ∷ cs) = known (c .number) && all-known cs
-
-first-known : (cs : List Cause) → all-known cs ≡ true → known (first-cause cs) ≡ true
-unfolding first-cause all-known
-first-known [] h = refl
-first-known (c ∷ cs) h = go (c .applies) ((simp and-eq-true-iff at h) .0) (first-known cs ((simp and-eq-true-iff at h) .1))
+first-is-cause : {cs : List Cause} → All (λ c. is-cause (c .number) ≡ true) cs → (first-cause cs ≡ 0 → ⊥) → is-cause (first-cause cs) ≡ true
+unfolding first-cause
+first-is-cause none h = absurd (h refl)
+first-is-cause (more {a = c} {rest = cs} k ks) h = go (c .applies) (first-is-cause ks) h
   where
-    go : (b : Bool) → known (c .number) ≡ true → known (first-cause cs) ≡ true → known (cond b (c .number) (first-cause cs)) ≡ true
-    go true h k = h
-    go false h k = k
+    go : (b : Bool) → ((first-cause cs ≡ 0 → ⊥) → is-cause (first-cause cs) ≡ true)
+        → (cond b (c .number) (first-cause cs) ≡ 0 → ⊥) → is-cause (cond b (c .number) (first-cause cs)) ≡ true
+    go true rest h = k
+    go false rest h = rest h
 
-refusal-known : (l : List ℕ) (rx : ℕ) → known (refusal l rx) ≡ true
-unfolding refusal causes all-known
-refusal-known l rx = first-known (causes l rx) refl
+refusal-is-cause : (l : List ℕ) (rx : ℕ) → (refusal l rx ≡ 0 → ⊥) → is-cause (refusal l rx) ≡ true
+unfolding refusal causes
+refusal-is-cause l rx = first-is-cause (more refl (more refl (more refl (more refl (more refl (more refl (more refl none)))))))
 
 -- a log that these readings answer
 pub record Taken (es : List Entry) (rs : List ℕ) : Type 0 where
@@ -76,61 +65,145 @@ taken-write c v es rs t h = record { answers = rw (t, h .answers); enough = rw t
 -- steps take their readings in turn
 goes-taken : {s : Setup} {p : List Step} {n : ℕ} {rs : List ℕ} {l : List Entry} {e : Ending} → Goes s p n rs l e → Taken l rs
 goes-taken done = taken-none _
-goes-taken (halted e) = taken-none _
-goes-taken (full h) = taken-none _
+goes-taken (halted e a) = taken-none _
+goes-taken (full a z) = taken-none _
 goes-taken (dry r a t) = taken-none _
 goes-taken (wrote r v a t g) = taken-write r v _ _ t (goes-taken g)
 goes-taken (took r w a t g) = taken-read r w _ _ t (goes-taken g)
 
--- demand 1
+-- steps that no entry is left for
+goes-full : {s : Setup} {p : List Step} {n : ℕ} {rs : List ℕ} {l : List Entry} {e : Ending} → Goes s p n rs l e → number e ≡ 10 → length l ≡ n
+unfolding number
+goes-full done z = absurd (omega arith)
+goes-full (halted e a) z = absurd (omega (arith, error-number e))
+goes-full (full a h) z = refl
+goes-full (dry r a t) z = absurd (omega arith)
+goes-full (wrote r v a t g) z = ap suc (goes-full g z)
+goes-full (took r w a t g) z = ap suc (goes-full g z)
+
+-- what steps log is what the machine logs
+goes-log : {s : Setup} {p : List Step} {n : ℕ} {rs : List ℕ} {l : List Entry} {e : Ending} → Goes s p n rs l e → exec s n p rs .log ≡ l
+unfolding exec exec-on exec-full perform no-room
+goes-log (done {n = zero}) = refl
+goes-log (done {n = suc n}) = refl
+goes-log (halted {n = zero} e a) = rw a
+goes-log (halted {n = suc n} e a) = rw a
+goes-log (full a z) = rw a
+goes-log (dry r a t) = rw a
+goes-log (wrote r v a t g) = rw (a, goes-log g)
+goes-log (took r w a t g) = rw (a, goes-log g)
+
+-- steps that lack a reading
+pub record Lacks (s : Setup) (p : List Step) (n : ℕ) (rs : List ℕ) (l : List Entry) : Type 0 where
+  pub all-used : reads l ≡ length rs
+  pub fits : length l < n
+  pub code : ℕ
+  pub of-read : is-read code ≡ true
+  pub next : (w : ℕ) → take (suc (length l)) (exec s n p (rs ++ w ∷ []) .log) ≡ l ++ record { code = code; value = cut code w } ∷ []
+
+-- and with one more access before them
+lacks-more : {s : Setup} {p q : List Step} {n : ℕ} {rs rs′ : List ℕ} {l : List Entry} (e : Entry) → Lacks s q n rs l → reads (e ∷ l) ≡ length rs′
+    → ((w : ℕ) → exec s (suc n) p (rs′ ++ w ∷ []) .log ≡ e ∷ exec s n q (rs ++ w ∷ []) .log) → Lacks s p (suc n) rs′ (e ∷ l)
+lacks-more e k used first =
+    record { all-used = used; fits = omega (arith, k .fits); code = k .code; of-read = k .of-read; next = λ w. rw (first w, k .next w) }
+
+goes-dry : {s : Setup} {p : List Step} {n : ℕ} {rs : List ℕ} {l : List Entry} {e : Ending} → Goes s p n rs l e → number e ≡ 9 → Lacks s p n rs l
+unfolding number reads exec exec-on perform
+goes-dry done z = absurd (omega arith)
+goes-dry (halted e a) z = absurd (omega (arith, error-number e))
+goes-dry (full a h) z = absurd (omega arith)
+goes-dry (dry r a t) z = record { all-used = refl; fits = omega arith; code = r; of-read = t; next = λ w. rw a }
+goes-dry (wrote r v a t g) z = let k = goes-dry g z in lacks-more _ k (rw t (omega (arith, k .all-used))) (λ w. rw a)
+goes-dry (took r v a t g) z = let k = goes-dry g z in lacks-more _ k (rw t (omega (arith, k .all-used))) (λ w. rw a)
+
+-- calls that end well are all counted
+run-calls : (s : Setup) (cs : List (List Step)) (n : ℕ) (rs : List ℕ) → number (calls s cs n rs .ending) ≡ 0 → calls s cs n rs .calls ≡ length cs
+unfolding calls after-call
+run-calls s [] n rs z = refl
+run-calls s (c ∷ cs) n rs z = go (exec s n c rs .log) (exec s n c rs .ending) _ (run-calls s cs _ _) z
+  where
+    go : (l : List Entry) (e : Ending) (r : Run) → (number (r .ending) ≡ 0 → r .calls ≡ length cs)
+        → number (after-call l e r .ending) ≡ 0 → after-call l e r .calls ≡ suc (length cs)
+    go l Ending.well r k z = ap suc (k z)
+    go l (Ending.failed e) r k z = absurd (omega (arith, error-number e))
+    go l (Ending.cut-short c) r k z = absurd (omega (arith, cut-number c))
+
+whole-calls : (s : Setup) (cs : List (List Step)) (n : ℕ) (rs : List ℕ) → number (whole-run s cs n rs .ending) ≡ 0 → whole-run s cs n rs .calls ≡ length cs
+unfolding whole-run after-bring-up
+whole-calls s cs n rs z = go (exec s n (bring-up s) rs .log) (exec s n (bring-up s) rs .ending) _ (run-calls s cs _ _) z
+  where
+    go : (l : List Entry) (e : Ending) (r : Run) → (number (r .ending) ≡ 0 → r .calls ≡ length cs)
+        → number (after-bring-up l e r .ending) ≡ 0 → after-bring-up l e r .calls ≡ length cs
+    go l Ending.well r k z = k z
+    go l (Ending.failed e) r k z = absurd (omega (arith, error-number e))
+    go l (Ending.cut-short c) r k z = absurd (omega (arith, cut-number c))
+
+-- an accepted list is run, and a refused one is not
+accepted-is : (list readings : List ℕ) (rx words : ℕ) → refusal list rx ≡ 0 → run list readings rx words ≡ result 0 (accepted-run list readings words)
+unfolding run
+accepted-is list readings rx words ok = rw ok
+
+refused-is : (list readings : List ℕ) (rx words : ℕ) → (refusal list rx ≡ 0 → ⊥)
+    → run list readings rx words ≡ record { answer = refusal list rx; calls = 0; log = record { opening = []; begun = [] } }
+unfolding run result
+refused-is list readings rx words h = rw (ne-eqb _ _ h)
+
+-- demand 1, of an accepted list and of a refused one
 module _ (list readings : List ℕ) (rx words : ℕ) where
-  -- what holds of the accesses of every run: an accepted list's, and none
-  pub record Log (es : List Entry) : Type 0 where
-    pub taken : Taken es readings
-    pub accesses : length es ≤ entries-in words
-    pub got : length (received-of es) ≤ rx
-
-  log-accepted : refusal list rx ≡ 0 → Log (flat (accepted-run list readings words .log))
-  unfolding accepted-run
-  log-accepted ok =
+  of-accepted : refusal list rx ≡ 0 → Demand1 list readings rx words
+  unfolding result accepted-run
+  of-accepted ok =
       let s : Setup = setup-of (settings-of list) in
+      let e = accepted-is list readings rx words ok in
       let g = whole-goes s (calls-of list) (entries-in words) readings in
-      record { taken = goes-taken g; accesses = goes-room g; got = received-fits list rx ok s (entries-in words) readings }
+      let small = number-small (accepted-run list readings words .ending) in
+      record {
+        answer = rw (e, le-leb _ 10 small);
+        accepted = λ ok. rw e small;
+        refused = λ h. absurd (h ok);
+        unchanged = λ h. absurd (h ok);
+        well = λ z. rw e (whole-calls s _ _ _ (rw e at z) ∙ length-map (calls-of list) (steps-of s));
+        no-reading = λ z.
+            let k = goes-dry g (rw e at z) in
+            record {
+              all-used = rw e (k .all-used);
+              fits = rw e (k .fits);
+              code = k .code;
+              of-read = k .of-read;
+              next = λ w.
+                  let h = goes-log (whole-goes s (calls-of list) (entries-in words) (readings ++ w ∷ [])) in
+                  rw (e, accepted-is list (readings ++ w ∷ []) rx words ok, ← h, add-one) (k .next w);
+            };
+        no-record = λ z. rw e (goes-full g (rw e at z));
+        taken = rw e (goes-taken g .answers);
+        made = rw e (goes-room g);
+        used = rw e (goes-taken g .enough);
+        got = rw e (received-fits list rx ok s (entries-in words) readings);
+      }
 
-  log-none : Log []
-  unfolding received-of
-  log-none = record { taken = taken-none readings; accesses = omega arith; got = omega arith }
-
-  log-of : Log (log list readings rx words)
-  unfolding run result flatten
-  log-of = go (refusal list rx) refl
-    where
-      go : (n : ℕ) → refusal list rx ≡ n → Log (flat (result n (accepted-run list readings words) .log))
-      go zero e = log-accepted e
-      go (suc n) e = rw (eqb·suc-zero n) log-none
-
-  answer-known : known (run list readings rx words .answer) ≡ true
-  unfolding run result
-  answer-known = go (refusal list rx) (refusal-known list rx)
-    where
-      go : (n : ℕ) → known n ≡ true → known (result n (accepted-run list readings words) .answer) ≡ true
-      go zero h = number-known (accepted-run list readings words .ending)
-      go (suc n) h = rw (eqb·suc-zero n) h
-
-  refused-run : (refusal list rx ≡ 0 → ⊥)
-      → (run list readings rx words .answer ≡ refusal list rx) × (run list readings rx words .calls ≡ 0) × (log list readings rx words ≡ [])
-  unfolding run result flatten
-  refused-run h = (rw (ne-eqb _ _ h), rw (ne-eqb _ _ h), rw (ne-eqb _ _ h))
+  of-refused : (refusal list rx ≡ 0 → ⊥) → Demand1 list readings rx words
+  unfolding filled flatten record-of received-of reads answered
+  of-refused h =
+      let e = refused-is list readings rx words h in
+      let c = refusal-is-cause list rx h in
+      let high = leb-true 20 (refusal list rx) ((simp and-eq-true-iff at c) .0) in
+      record {
+        answer = rw (e, c, or-true);
+        accepted = λ ok. absurd (h ok);
+        refused = λ h. (rw e high, rw e, rw e, rw e);
+        unchanged = λ h buffer. rw e (refl, refl);
+        well = λ z. absurd (omega (arith, rw e at z));
+        no-reading = λ z. absurd (omega (arith, rw e at z));
+        no-record = λ z. absurd (omega (arith, rw e at z));
+        taken = rw e;
+        made = rw e (omega arith);
+        used = rw e (omega arith);
+        got = rw e (omega arith);
+      }
 
   pub demand-1 : Demand1 list readings rx words
-  unfolding filled record-of received-of
-  demand-1 =
-      record {
-        answer = answer-known;
-        refused = refused-run;
-        unchanged = λ h buffer. rw (refused-run h .2) (refl, refl);
-        taken = log-of .taken .answers;
-        accesses = log-of .accesses;
-        used = log-of .taken .enough;
-        got = log-of .got;
-      }
+  demand-1 = go (refusal list rx) refl
+    where
+      go : (n : ℕ) → refusal list rx ≡ n → Demand1 list readings rx words
+      go zero e = of-accepted e
+      go (suc n) e = of-refused (λ z. omega arith)

@@ -5,7 +5,7 @@ use native.Mathlib.Omega.{arith}
 use native.Mathlib.Numerals.{one-add}
 use native.Mathlib.Nat.{zero-add, sub-zero, suc-sub-suc}
 use mathlib.Core.Bool.{Bool, true, false, cond}
-use mathlib.Core.Path.{_≡_, refl, _∙_}
+use mathlib.Core.Path.{_≡_, refl, ap, _∙_}
 use mathlib.Core.List.{List, [], _∷_, _++_, map, flatten, append-nil, append-assoc}
 use lib.ListN.{length, drop}
 use Rattle.units.specs.declared.Setup.{Setup}
@@ -15,15 +15,16 @@ use Rattle.registers.specs.declared.BusError.{BusError}
 use Rattle.registers.specs.declared.Cut.{Cut}
 use Rattle.registers.specs.declared.Entry.{Entry}
 use Rattle.registers.specs.Access.{Ending, is-read, cut, reads, number}
-use Rattle.registers.specs.Machine.{Step, Access, access, next, perform, no-room, exec, exec-on, exec-full, bring-up, Run, run, after-call, flat, after-bring-up, whole-run}
+use Rattle.registers.specs.Machine.{Step, Access, access, next, perform, no-room, ended, exec, exec-on, exec-full, bring-up, Run, run, after-call, flat, after-bring-up, whole-run}
 use Rattle.engine.specs.Calls.{steps-of}
 use Rattle.engine.proofs.Plan.{Weights, total, total-append, after-access, bring-up-none, times, reads-together, steps-total}
 
 -- steps with this room and these readings log so and end so
 pub data Goes (s : Setup) : List Step → ℕ → List ℕ → List Entry → Ending → Type 0 where
   done : {n : ℕ} {rs : List ℕ} → Goes s [] n rs [] Ending.well
-  halted : {i : Step} {p : List Step} {n : ℕ} {rs : List ℕ} (e : BusError) → Goes s (i ∷ p) n rs [] (Ending.failed e)
-  full : {i : Step} {p : List Step} {rs : List ℕ} {c : Cut} → number (Ending.cut-short c) ≡ 10 → Goes s (i ∷ p) 0 rs [] (Ending.cut-short c)
+  halted : {i : Step} {p : List Step} {n : ℕ} {rs : List ℕ} (e : BusError) → access i ≡ Access.halt e → Goes s (i ∷ p) n rs [] (Ending.failed e)
+  full : {i : Step} {p : List Step} {rs : List ℕ} {c : Cut} → no-room (access i) ≡ ended (Ending.cut-short c) → number (Ending.cut-short c) ≡ 10
+      → Goes s (i ∷ p) 0 rs [] (Ending.cut-short c)
   dry : {i : Step} {p : List Step} {n : ℕ} (r : ℕ) → access i ≡ Access.read r → is-read r ≡ true → Goes s (i ∷ p) (suc n) [] [] (Ending.cut-short Cut.NoReadings)
   wrote : {i : Step} {p : List Step} {n : ℕ} {rs : List ℕ} {l : List Entry} {e : Ending} (r v : ℕ) → access i ≡ Access.write r v → is-read r ≡ false
       → Goes s (next s i v ++ p) n rs l e → Goes s (i ∷ p) (suc n) rs (record { code = r; value = v } ∷ l) e
@@ -55,18 +56,18 @@ read-code false h = absurd (omega arith)
 exec-goes : (s : Setup) (n : ℕ) (p : List Step) (rs : List ℕ) → misused p ≡ 0 → Goes s p n rs (exec s n p rs .log) (exec s n p rs .ending)
 unfolding exec exec-on exec-full perform no-room number
 exec-goes s zero [] rs h = done
-exec-goes s zero (i ∷ p) rs h = go (access i)
+exec-goes s zero (i ∷ p) rs h = go (access i) refl
   where
-    go : (a : Access) → Goes s (i ∷ p) 0 rs (no-room a .log) (no-room a .ending)
-    go (Access.halt e) = halted e
-    go (Access.read r) = full refl
-    go (Access.write r v) = full refl
+    go : (a : Access) → access i ≡ a → Goes s (i ∷ p) 0 rs (no-room a .log) (no-room a .ending)
+    go (Access.halt e) k = halted e k
+    go (Access.read r) k = full (ap no-room k) refl
+    go (Access.write r v) k = full (ap no-room k) refl
 exec-goes s (suc n) [] rs h = done
 exec-goes s (suc n) (i ∷ p) rs h = go (access i) refl rs (exec-goes s n)
   where
     go : (a : Access) → access i ≡ a → (rs : List ℕ) → ((p : List Step) (rs : List ℕ) → misused p ≡ 0 → Goes s p n rs (exec s n p rs .log) (exec s n p rs .ending))
         → let r = perform a (λ v. next s i v ++ p) rs (exec s n) in Goes s (i ∷ p) (suc n) rs (r .log) (r .ending)
-    go (Access.halt e) k rs ih = halted e
+    go (Access.halt e) k rs ih = halted e k
     go (Access.write r v) k rs ih =
         let f = rw k at (after-access P G code-weights s i p v) in
         wrote r v k (write-code (is-read r) (omega arith)) (ih (next s i v ++ p) rs (omega arith))
@@ -90,8 +91,8 @@ module _ {s : Setup} where
   stops : {p : List Step} {n : ℕ} {rs : List ℕ} {l : List Entry} {e : Ending} → Goes s p n rs l e → (number e ≡ 0 → ⊥) → (q : List Step) → Goes s (p ++ q) n rs l e
   unfolding number
   stops done bad q = absurd (bad refl)
-  stops (halted e) bad q = halted e
-  stops (full h) bad q = full h
+  stops (halted e a) bad q = halted e a
+  stops (full a z) bad q = full a z
   stops (dry r a t) bad q = dry r a t
   stops (wrote r v a t h) bad q = wrote r v a t (rw append-assoc at (stops h bad q))
   stops (took r w a t h) bad q = took r w a t (rw append-assoc at (stops h bad q))
@@ -170,8 +171,8 @@ whole-goes s cs n rs =
 -- steps make no more accesses than fit
 pub goes-room : {s : Setup} {p : List Step} {n : ℕ} {rs : List ℕ} {l : List Entry} {e : Ending} → Goes s p n rs l e → length l ≤ n
 goes-room done = omega arith
-goes-room (halted e) = omega arith
-goes-room (full h) = omega arith
+goes-room (halted e a) = omega arith
+goes-room (full a z) = omega arith
 goes-room (dry r a t) = omega arith
 goes-room (wrote r v a t g) = omega (arith, goes-room g)
 goes-room (took r w a t g) = omega (arith, goes-room g)

@@ -48,8 +48,8 @@ received-entry e es = length-append (cond (is-data (e .code)) (low-byte (e .valu
 goes-received : {s : Setup} {p : List Step} {n : ℕ} {rs : List ℕ} {l : List Entry} {e : Ending} → Goes s p n rs l e → length (received-of l) ≤ planned p
 unfolding received-of
 goes-received done = omega arith
-goes-received (halted e) = omega arith
-goes-received (full h) = omega arith
+goes-received (halted e a) = omega arith
+goes-received (full a z) = omega arith
 goes-received (dry r a t) = omega arith
 goes-received {s} (wrote {i} {p} {l} r v a t g) =
     omega (arith, received-entry (record { code = r; value = v }) l, goes-received g, rw a at (after-access D D data-weights s i p v))

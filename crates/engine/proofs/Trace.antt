@@ -35,8 +35,8 @@ Trace s (m ∷ l) (i ∷ p) = Made (access i) m × Trace s l (next s i (m .value
 pub goes-trace : {s : Setup} {p : List Step} {n : ℕ} {rs : List ℕ} {l : List Entry} {e : Ending} → Goes s p n rs l e → number e ≡ 0 → Trace s l p
 unfolding Trace number
 goes-trace done z = tt
-goes-trace (halted e) z = absurd (omega (arith, error-number e))
-goes-trace (full h) z = absurd (omega arith)
+goes-trace (halted e a) z = absurd (omega (arith, error-number e))
+goes-trace (full a h) z = absurd (omega arith)
 goes-trace (dry r a t) z = absurd (omega arith)
 goes-trace (wrote r v a t g) z = (rw a (refl, refl), goes-trace g z)
 goes-trace (took r w a t g) z = (rw a refl, goes-trace g z)

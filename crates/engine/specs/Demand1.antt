@@ -1,19 +1,23 @@
 -- Demand 1 over the meaning of a run.
-use Prim.Native.Nat.{ℕ, _≤_}
+use Prim.Native.Nat.{ℕ, _+_, _≤_, _<_}
 use mathlib.Core.Path.{_≡_}
-use mathlib.Core.List.{List, [], _∷_}
+use mathlib.Core.List.{List, [], _∷_, _++_}
 use mathlib.Core.Bool.{Bool, true, false, _&&_, _||_}
-use lib.ListN.{length}
+use lib.ListN.{length, take}
 use lib.Dec.{leb}
 use Rattle.buslist.specs.Refusal.{refusal}
+use Rattle.buslist.specs.Meaning.{calls-of}
 use Rattle.registers.specs.declared.Entry.{Entry}
 use Rattle.registers.specs.Access.{is-read, cut, entries-in, record-of, received-of, reads}
 use Rattle.registers.specs.Machine.{flat}
 use Rattle.engine.specs.Run.{Result, run, filled}
 
--- the numbers of document 01's table: 0 to 10, and 20 to 26
+-- the numbers of document 01's table: 0 to 10, and the causes, 20 to 26
+abbrev pub is-cause : ℕ → Bool
+is-cause n = leb 20 n && leb n 26
+
 abbrev pub known : ℕ → Bool
-known n = leb n 10 || leb 20 n && leb n 26
+known n = leb n 10 || is-cause n
 
 -- an entry with the next reading as its value where it is a read, then the rest on the readings left
 unfoldable pub answer : Bool → Entry → (List ℕ → List Entry) → List ℕ → List Entry
@@ -26,24 +30,43 @@ unfoldable pub answered : List Entry → List ℕ → List Entry
 answered [] rs = []
 answered (e ∷ es) rs = answer (is-read (e .code)) e (answered es) rs
 
+-- the accesses of the run of a list on readings, with a received buffer of rx bytes and a record of so many words
+abbrev pub accesses : (list readings : List ℕ) (rx words : ℕ) → List Entry
+accesses list readings rx words = flat (run list readings rx words .log)
+
 module _ (list readings : List ℕ) (rx words : ℕ) where
-  -- the run of a list on readings, with a received buffer of rx bytes and a record of so many words, and its accesses
+  -- that run, and its accesses
   abbrev pub ran : Result
   ran = run list readings rx words
 
   abbrev pub log : List Entry
-  log = flat (ran .log)
+  log = accesses list readings rx words
+
+  -- it lacks a reading: all are used, an entry still fits the record, and the next access is a read of one register, whatever a further reading is
+  pub record LacksReading : Type 0 where
+    pub all-used : reads log ≡ length readings
+    pub fits : length log < entries-in words
+    pub code : ℕ
+    pub of-read : is-read code ≡ true
+    pub next : (reading : ℕ) → take (length log + 1) (accesses list (readings ++ reading ∷ []) rx words) ≡ log ++ record { code = code; value = cut code reading } ∷ []
 
   -- what holds of it
   pub record Demand1 : Type 0 where
-    -- every run's answer is one of document 01's numbers
+    -- the answer is one of document 01's numbers: at most 10 where the list is accepted, and from 20 on where it is refused
     pub answer : known (ran .answer) ≡ true
+    pub accepted : refusal list rx ≡ 0 → ran .answer ≤ 10
     -- a refused list gets its cause, makes no access, has zero counts and changes no buffer
-    pub refused : (refusal list rx ≡ 0 → ⊥) → (ran .answer ≡ refusal list rx) × (ran .calls ≡ 0) × (log ≡ [])
+    pub refused : (refusal list rx ≡ 0 → ⊥) → (20 ≤ ran .answer) × (ran .answer ≡ refusal list rx) × (ran .calls ≡ 0) × (log ≡ [])
     pub unchanged : (refusal list rx ≡ 0 → ⊥) → (buffer : List ℕ) → (filled buffer (record-of log) ≡ buffer) × (filled buffer (received-of log) ≡ buffer)
+    -- 0: every call of the list ended well
+    pub well : ran .answer ≡ 0 → ran .calls ≡ length (calls-of list)
+    -- 9: the next access is a read and every reading is used
+    pub no-reading : ran .answer ≡ 9 → LacksReading
+    -- 10: no entry fits the rest of the record
+    pub no-record : ran .answer ≡ 10 → length log ≡ entries-in words
     -- the readings used are the ones taken
     pub taken : answered log readings ≡ log
     -- every run ends: with no more accesses than fit the record, no more readings than given, no more bytes than the buffer
-    pub accesses : length log ≤ entries-in words
+    pub made : length log ≤ entries-in words
     pub used : reads log ≤ length readings
     pub got : length (received-of log) ≤ rx
