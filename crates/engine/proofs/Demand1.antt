@@ -143,7 +143,7 @@ accepted-is : (list readings : List ℕ) (rx words : ℕ) → refusal list rx �
 unfolding run
 accepted-is list readings rx words ok = rw ok
 
-refused-is : (list readings : List ℕ) (rx words : ℕ) → (refusal list rx ≡ 0 → ⊥)
+pub refused-is : (list readings : List ℕ) (rx words : ℕ) → (refusal list rx ≡ 0 → ⊥)
     → run list readings rx words ≡ record { answer = refusal list rx; calls = 0; log = record { opening = []; begun = [] } }
 unfolding run result
 refused-is list readings rx words h = rw (ne-eqb _ _ h)

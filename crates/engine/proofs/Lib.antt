@@ -12,5 +12,6 @@ pub mod Apart
 pub mod Reduced
 pub mod Listed
 pub mod Demand3
+pub mod Corollaries
 pub mod Witness
 pub mod Pass
