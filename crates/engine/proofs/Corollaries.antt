@@ -1,18 +1,18 @@
 -- Demands 1 and 3 of what the code itself gives: by its contract.
 -- Assumes nothing.
-use mathlib.Core.Path.{_≡_, refl, sym, ap, _∙_}
-use mathlib.Core.List.{List, flatten}
 use Prim.Native.Nat.{ℕ}
+use mathlib.Core.Path.{_≡_, sym, _∙_}
+use mathlib.Core.List.{List, flatten}
 use lib.ListN.{length}
 use lib.Seq.{take-at, take-append-seam}
 use Rattle.registers.specs.Access.{record-of, received-of, reads}
-use Rattle.engine.specs.declared.Counts.{Counts}
-use Rattle.engine.specs.Run.{Result, run, counts-of, filled, RunsTo, HostRunsTo}
-use Rattle.engine.specs.Demand1.{ran, log}
-use Rattle.engine.specs.Compare.{Accepted, Comparable, SameRun}
-use Rattle.engine.specs.Corollaries.{RunOf, counts-in, words-made, bytes-got, Results1, SameResults, Results3}
+use Rattle.registers.specs.Machine.{flat}
+use Rattle.engine.specs.Run.{Result, run, counts-of, filled, HostRunsTo}
+use Rattle.engine.specs.Compare.{SameRun}
+use Rattle.engine.specs.Corollaries.{RunOf, counts-in, words-made, bytes-got, Results1, Results3}
 use Rattle.engine.proofs.RunLaws.{record-length}
-use Rattle.engine.proofs.Demand1.{refused-is, demand-1}
+use Rattle.engine.proofs.Result.{refused-is}
+use Rattle.engine.proofs.Demand1.{demand-1}
 use Rattle.engine.proofs.Demand3.{demand-3}
 
 -- the meaning of a run by the code
@@ -21,11 +21,11 @@ meant {list} r = run list (r .readings) (length (r .rx)) (length (r .lg))
 
 module _ {list : List ℕ} (r : RunOf list) where
   -- what stands in the buffers is the record and the received bytes of the meaning
-  words-are : words-made r ≡ record-of (log list (r .readings) (length (r .rx)) (length (r .lg)))
+  words-are : words-made r ≡ record-of (flat (meant r .log))
   unfolding counts-of filled
-  words-are = rw (r .runs .counts, r .runs .recorded) (take-at _ _ _ (record-length (log list (r .readings) (length (r .rx)) (length (r .lg)))))
+  words-are = rw (r .runs .counts, r .runs .recorded) (take-at _ _ _ (record-length (flat (meant r .log))))
 
-  bytes-are : bytes-got r ≡ received-of (log list (r .readings) (length (r .rx)) (length (r .lg)))
+  bytes-are : bytes-got r ≡ received-of (flat (meant r .log))
   unfolding counts-of filled
   bytes-are = rw (r .runs .counts, r .runs .received) (take-append-seam _ _)
 

@@ -1,13 +1,13 @@
 -- Demand 1.
 -- Assumes nothing.
-use Prim.Native.Nat.{ℕ, zero, suc, _≤_, _<_}
+use Prim.Native.Nat.{ℕ, zero, suc, _+_, _≤_}
 use native.Mathlib.Omega.{arith}
 use native.Mathlib.Numerals.{add-one}
 use mathlib.Core.Bool.{Bool, true, false, cond, and-eq-true-iff, or-true}
-use mathlib.Core.Path.{_≡_, refl, ap, _∙_}
-use mathlib.Core.List.{List, [], _∷_, _++_, flatten}
-use lib.ListN.{length, take, length-map}
-use borrow.Author.Tests.{leb-true, le-leb, ne-eqb}
+use mathlib.Core.Path.{_≡_, refl, sym, ap, _∙_}
+use mathlib.Core.List.{List, [], _∷_, _++_, map, flatten}
+use lib.ListN.{length, length-map}
+use borrow.Author.Tests.{leb-true, le-leb}
 use Rattle.units.specs.declared.Setup.{Setup}
 use Rattle.units.specs.Setup.{setup-of}
 use Rattle.buslist.specs.Table.{settings-of}
@@ -17,11 +17,12 @@ use Rattle.registers.specs.declared.Entry.{Entry}
 use Rattle.registers.specs.Access.{Ending, is-read, cut, entries-in, record-of, received-of, reads, number}
 use Rattle.registers.specs.Machine.{Step, perform, no-room, exec, exec-on, exec-full, bring-up, Run, after-call, after-bring-up, whole-run, run as calls}
 use Rattle.engine.specs.Calls.{steps-of}
-use Rattle.engine.specs.Run.{run, result, accepted-run, filled}
-use Rattle.engine.specs.Demand1.{is-cause, answer, answered, Demand1}
+use Rattle.engine.specs.Run.{result, filled}
+use Rattle.engine.specs.Demand1.{is-cause, answer, answered, LacksReading, Demand1}
 use Rattle.engine.proofs.Shape.{All, none, more}
-use Rattle.engine.proofs.Goes.{Goes, done, halted, full, dry, wrote, took, error-number, cut-number, whole-goes, goes-room}
+use Rattle.engine.proofs.Goes.{Goes, done, halted, full, lacks, wrote, took, error-number, cut-number, whole-goes, goes-room}
 use Rattle.engine.proofs.Received.{received-fits}
+use Rattle.engine.proofs.Result.{run-of-calls, accepted-is, refused-is}
 
 -- a run's number is at most 10
 number-small : (e : Ending) → number e ≤ 10
@@ -67,7 +68,7 @@ goes-taken : {s : Setup} {p : List Step} {n : ℕ} {rs : List ℕ} {l : List Ent
 goes-taken done = taken-none _
 goes-taken (halted e a) = taken-none _
 goes-taken (full a z) = taken-none _
-goes-taken (dry r a t) = taken-none _
+goes-taken (lacks r a t) = taken-none _
 goes-taken (wrote r v a t g) = taken-write r v _ _ t (goes-taken g)
 goes-taken (took r w a t g) = taken-read r w _ _ t (goes-taken g)
 
@@ -77,7 +78,7 @@ unfolding number
 goes-full done z = absurd (omega arith)
 goes-full (halted e a) z = absurd (omega (arith, error-number e))
 goes-full (full a h) z = refl
-goes-full (dry r a t) z = absurd (omega arith)
+goes-full (lacks r a t) z = absurd (omega arith)
 goes-full (wrote r v a t g) z = ap suc (goes-full g z)
 goes-full (took r w a t g) z = ap suc (goes-full g z)
 
@@ -89,92 +90,83 @@ goes-log (done {n = suc n}) = refl
 goes-log (halted {n = zero} e a) = rw a
 goes-log (halted {n = suc n} e a) = rw a
 goes-log (full a z) = rw a
-goes-log (dry r a t) = rw a
+goes-log (lacks r a t) = rw a
 goes-log (wrote r v a t g) = rw (a, goes-log g)
 goes-log (took r w a t g) = rw (a, goes-log g)
 
--- steps that lack a reading
-pub record Lacks (s : Setup) (p : List Step) (n : ℕ) (rs : List ℕ) (l : List Entry) : Type 0 where
-  pub all-used : reads l ≡ length rs
-  pub fits : length l < n
-  pub code : ℕ
-  pub of-read : is-read code ≡ true
-  pub next : (w : ℕ) → take (suc (length l)) (exec s n p (rs ++ w ∷ []) .log) ≡ l ++ record { code = code; value = cut code w } ∷ []
-
--- and with one more access before them
-lacks-more : {s : Setup} {p q : List Step} {n : ℕ} {rs rs′ : List ℕ} {l : List Entry} (e : Entry) → Lacks s q n rs l → reads (e ∷ l) ≡ length rs′
-    → ((w : ℕ) → exec s (suc n) p (rs′ ++ w ∷ []) .log ≡ e ∷ exec s n q (rs ++ w ∷ []) .log) → Lacks s p (suc n) rs′ (e ∷ l)
+-- a log lacks a reading with one more entry before it, and with the same longer logs
+lacks-more : {l : List Entry} {rs rs′ : List ℕ} {n : ℕ} {f g : ℕ → List Entry} (e : Entry) → LacksReading l rs n f → reads (e ∷ l) ≡ length rs′
+    → ((w : ℕ) → g w ≡ e ∷ f w) → LacksReading (e ∷ l) rs′ (suc n) g
 lacks-more e k used first =
-    record { all-used = used; fits = omega (arith, k .fits); code = k .code; of-read = k .of-read; next = λ w. rw (first w, k .next w) }
+    record {
+      all-used = used;
+      fits = omega (arith, k .fits);
+      code = k .code;
+      of-read = k .of-read;
+      next = λ w. let h = rw add-one at (k .next w) in rw (first w, add-one, h);
+    }
 
-goes-dry : {s : Setup} {p : List Step} {n : ℕ} {rs : List ℕ} {l : List Entry} {e : Ending} → Goes s p n rs l e → number e ≡ 9 → Lacks s p n rs l
+lacks-same : {l : List Entry} {rs : List ℕ} {n : ℕ} {f g : ℕ → List Entry} → LacksReading l rs n f → ((w : ℕ) → g w ≡ f w) → LacksReading l rs n g
+lacks-same k same = record { all-used = k .all-used; fits = k .fits; code = k .code; of-read = k .of-read; next = λ w. rw (same w) (k .next w) }
+
+-- steps that lack a reading
+goes-lacks : {s : Setup} {p : List Step} {n : ℕ} {rs : List ℕ} {l : List Entry} {e : Ending} → Goes s p n rs l e → number e ≡ 9
+    → LacksReading l rs n (λ w. exec s n p (rs ++ w ∷ []) .log)
 unfolding number reads exec exec-on perform
-goes-dry done z = absurd (omega arith)
-goes-dry (halted e a) z = absurd (omega (arith, error-number e))
-goes-dry (full a h) z = absurd (omega arith)
-goes-dry (dry r a t) z = record { all-used = refl; fits = omega arith; code = r; of-read = t; next = λ w. rw a }
-goes-dry (wrote r v a t g) z = let k = goes-dry g z in lacks-more _ k (rw t (omega (arith, k .all-used))) (λ w. rw a)
-goes-dry (took r v a t g) z = let k = goes-dry g z in lacks-more _ k (rw t (omega (arith, k .all-used))) (λ w. rw a)
+goes-lacks done z = absurd (omega arith)
+goes-lacks (halted e a) z = absurd (omega (arith, error-number e))
+goes-lacks (full a h) z = absurd (omega arith)
+goes-lacks (lacks r a t) z = record { all-used = refl; fits = omega arith; code = r; of-read = t; next = λ w. rw a }
+goes-lacks (wrote r v a t g) z = let k = goes-lacks g z in lacks-more _ k (rw t (omega (arith, k .all-used))) (λ w. rw a)
+goes-lacks (took r v a t g) z = let k = goes-lacks g z in lacks-more _ k (rw t (omega (arith, k .all-used))) (λ w. rw a)
 
--- calls that end well are all counted
-run-calls : (s : Setup) (cs : List (List Step)) (n : ℕ) (rs : List ℕ) → number (calls s cs n rs .ending) ≡ 0 → calls s cs n rs .calls ≡ length cs
+-- of n calls so many ended well, and these were begun
+pub record Counted (n : ℕ) (e : Ending) (k : ℕ) (parts : List (List Entry)) : Type 0 where
+  pub low : k ≤ length parts
+  pub high : length parts ≤ k + 1
+  pub all : number e ≡ 0 → k ≡ n
+
+run-counted : (s : Setup) (cs : List (List Step)) (n : ℕ) (rs : List ℕ) → let r = calls s cs n rs in Counted (length cs) (r .ending) (r .calls) (r .begun)
 unfolding calls after-call
-run-calls s [] n rs z = refl
-run-calls s (c ∷ cs) n rs z = go (exec s n c rs .log) (exec s n c rs .ending) _ (run-calls s cs _ _) z
+run-counted s [] n rs = record { low = omega arith; high = omega arith; all = λ z. refl }
+run-counted s (c ∷ cs) n rs = go (exec s n c rs .log) (exec s n c rs .ending) _ (run-counted s cs _ _)
   where
-    go : (l : List Entry) (e : Ending) (r : Run) → (number (r .ending) ≡ 0 → r .calls ≡ length cs)
-        → number (after-call l e r .ending) ≡ 0 → after-call l e r .calls ≡ suc (length cs)
-    go l Ending.well r k z = ap suc (k z)
-    go l (Ending.failed e) r k z = absurd (omega (arith, error-number e))
-    go l (Ending.cut-short c) r k z = absurd (omega (arith, cut-number c))
+    go : (l : List Entry) (e : Ending) (r : Run) → Counted (length cs) (r .ending) (r .calls) (r .begun)
+        → let r = after-call l e r in Counted (suc (length cs)) (r .ending) (r .calls) (r .begun)
+    go l Ending.well r k = record { low = omega (arith, k .low); high = omega (arith, k .high); all = λ z. ap suc (k .all z) }
+    go l (Ending.failed e) r k = record { low = omega arith; high = omega arith; all = λ z. absurd (omega (arith, error-number e)) }
+    go l (Ending.cut-short c) r k = record { low = omega arith; high = omega arith; all = λ z. absurd (omega (arith, cut-number c)) }
 
-whole-calls : (s : Setup) (cs : List (List Step)) (n : ℕ) (rs : List ℕ) → number (whole-run s cs n rs .ending) ≡ 0 → whole-run s cs n rs .calls ≡ length cs
+whole-counted : (s : Setup) (cs : List (List Step)) (n : ℕ) (rs : List ℕ) → let r = whole-run s cs n rs in Counted (length cs) (r .ending) (r .calls) (r .log .begun)
 unfolding whole-run after-bring-up
-whole-calls s cs n rs z = go (exec s n (bring-up s) rs .log) (exec s n (bring-up s) rs .ending) _ (run-calls s cs _ _) z
+whole-counted s cs n rs = go (exec s n (bring-up s) rs .log) (exec s n (bring-up s) rs .ending) _ (run-counted s cs _ _)
   where
-    go : (l : List Entry) (e : Ending) (r : Run) → (number (r .ending) ≡ 0 → r .calls ≡ length cs)
-        → number (after-bring-up l e r .ending) ≡ 0 → after-bring-up l e r .calls ≡ length cs
-    go l Ending.well r k z = k z
-    go l (Ending.failed e) r k z = absurd (omega (arith, error-number e))
-    go l (Ending.cut-short c) r k z = absurd (omega (arith, cut-number c))
-
--- an accepted list is run, and a refused one is not
-accepted-is : (list readings : List ℕ) (rx words : ℕ) → refusal list rx ≡ 0 → run list readings rx words ≡ result 0 (accepted-run list readings words)
-unfolding run
-accepted-is list readings rx words ok = rw ok
-
-pub refused-is : (list readings : List ℕ) (rx words : ℕ) → (refusal list rx ≡ 0 → ⊥)
-    → run list readings rx words ≡ record { answer = refusal list rx; calls = 0; log = record { opening = []; begun = [] } }
-unfolding run result
-refused-is list readings rx words h = rw (ne-eqb _ _ h)
+    go : (l : List Entry) (e : Ending) (r : Run) → Counted (length cs) (r .ending) (r .calls) (r .begun)
+        → let r = after-bring-up l e r in Counted (length cs) (r .ending) (r .calls) (r .log .begun)
+    go l Ending.well r k = k
+    go l (Ending.failed e) r k = record { low = omega arith; high = omega arith; all = λ z. absurd (omega (arith, error-number e)) }
+    go l (Ending.cut-short c) r k = record { low = omega arith; high = omega arith; all = λ z. absurd (omega (arith, cut-number c)) }
 
 -- demand 1, of an accepted list and of a refused one
 module _ (list readings : List ℕ) (rx words : ℕ) where
   of-accepted : refusal list rx ≡ 0 → Demand1 list readings rx words
-  unfolding result accepted-run
+  unfolding result
   of-accepted ok =
       let s : Setup = setup-of (settings-of list) in
-      let e = accepted-is list readings rx words ok in
+      let e = accepted-is list readings rx words ok refl in
       let g = whole-goes s (calls-of list) (entries-in words) readings in
-      let small = number-small (accepted-run list readings words .ending) in
+      let k = whole-counted s (map (steps-of s) (calls-of list)) (entries-in words) readings in
+      let small = number-small (run-of-calls (settings-of list) (calls-of list) words readings .ending) in
       record {
         answer = rw (e, le-leb _ 10 small);
         accepted = λ ok. rw e small;
         refused = λ h. absurd (h ok);
         unchanged = λ h. absurd (h ok);
-        well = λ z. rw e (whole-calls s _ _ _ (rw e at z) ∙ length-map (calls-of list) (steps-of s));
-        no-reading = λ z.
-            let k = goes-dry g (rw e at z) in
-            record {
-              all-used = rw e (k .all-used);
-              fits = rw e (k .fits);
-              code = k .code;
-              of-read = k .of-read;
-              next = λ w.
-                  let h = goes-log (whole-goes s (calls-of list) (entries-in words) (readings ++ w ∷ [])) in
-                  rw (e, accepted-is list (readings ++ w ∷ []) rx words ok, ← h, add-one) (k .next w);
-            };
+        well = λ z. rw e (k .all (rw e at z) ∙ length-map (calls-of list) (steps-of s));
+        no-reading = λ z. rw e (lacks-same (goes-lacks g (rw e at z)) (λ w.
+            rw (accepted-is list (readings ++ w ∷ []) rx words ok refl) (sym (goes-log (whole-goes s (calls-of list) (entries-in words) (readings ++ w ∷ []))))));
         no-record = λ z. rw e (goes-full g (rw e at z));
+        begun = rw e (k .low, k .high);
         taken = rw e (goes-taken g .answers);
         made = rw e (goes-room g);
         used = rw e (goes-taken g .enough);
@@ -195,6 +187,7 @@ module _ (list readings : List ℕ) (rx words : ℕ) where
         well = λ z. absurd (omega (arith, rw e at z));
         no-reading = λ z. absurd (omega (arith, rw e at z));
         no-record = λ z. absurd (omega (arith, rw e at z));
+        begun = rw e (omega arith, omega arith);
         taken = rw e;
         made = rw e (omega arith);
         used = rw e (omega arith);

@@ -25,7 +25,7 @@ pub data Goes (s : Setup) : List Step → ℕ → List ℕ → List Entry → En
   halted : {i : Step} {p : List Step} {n : ℕ} {rs : List ℕ} (e : BusError) → access i ≡ Access.halt e → Goes s (i ∷ p) n rs [] (Ending.failed e)
   full : {i : Step} {p : List Step} {rs : List ℕ} {c : Cut} → no-room (access i) ≡ ended (Ending.cut-short c) → number (Ending.cut-short c) ≡ 10
       → Goes s (i ∷ p) 0 rs [] (Ending.cut-short c)
-  dry : {i : Step} {p : List Step} {n : ℕ} (r : ℕ) → access i ≡ Access.read r → is-read r ≡ true → Goes s (i ∷ p) (suc n) [] [] (Ending.cut-short Cut.NoReadings)
+  lacks : {i : Step} {p : List Step} {n : ℕ} (r : ℕ) → access i ≡ Access.read r → is-read r ≡ true → Goes s (i ∷ p) (suc n) [] [] (Ending.cut-short Cut.NoReadings)
   wrote : {i : Step} {p : List Step} {n : ℕ} {rs : List ℕ} {l : List Entry} {e : Ending} (r v : ℕ) → access i ≡ Access.write r v → is-read r ≡ false
       → Goes s (next s i v ++ p) n rs l e → Goes s (i ∷ p) (suc n) rs (record { code = r; value = v } ∷ l) e
   took : {i : Step} {p : List Step} {n : ℕ} {rs : List ℕ} {l : List Entry} {e : Ending} (r w : ℕ) → access i ≡ Access.read r → is-read r ≡ true
@@ -73,7 +73,7 @@ exec-goes s (suc n) (i ∷ p) rs h = go (access i) refl rs (exec-goes s n)
         wrote r v k (write-code (is-read r) (omega arith)) (ih (next s i v ++ p) rs (omega arith))
     go (Access.read r) k [] ih =
         let f = rw k at (after-access P G code-weights s i p 0) in
-        dry r k (read-code (is-read r) (omega arith))
+        lacks r k (read-code (is-read r) (omega arith))
     go (Access.read r) k (w ∷ rs) ih =
         let f = rw k at (after-access P G code-weights s i p (cut r w)) in
         took r w k (read-code (is-read r) (omega arith)) (ih (next s i (cut r w) ++ p) rs (omega arith))
@@ -93,7 +93,7 @@ module _ {s : Setup} where
   stops done bad q = absurd (bad refl)
   stops (halted e a) bad q = halted e a
   stops (full a z) bad q = full a z
-  stops (dry r a t) bad q = dry r a t
+  stops (lacks r a t) bad q = lacks r a t
   stops (wrote r v a t h) bad q = wrote r v a t (rw append-assoc at (stops h bad q))
   stops (took r w a t h) bad q = took r w a t (rw append-assoc at (stops h bad q))
 
@@ -173,6 +173,6 @@ pub goes-room : {s : Setup} {p : List Step} {n : ℕ} {rs : List ℕ} {l : List 
 goes-room done = omega arith
 goes-room (halted e a) = omega arith
 goes-room (full a z) = omega arith
-goes-room (dry r a t) = omega arith
+goes-room (lacks r a t) = omega arith
 goes-room (wrote r v a t g) = omega (arith, goes-room g)
 goes-room (took r w a t g) = omega (arith, goes-room g)

@@ -18,7 +18,7 @@ use Rattle.registers.specs.Access.{Ending, is-data, received-of, cut, low-byte}
 use Rattle.registers.specs.Machine.{Step, bring-up, flat, whole-run}
 use Rattle.engine.specs.Calls.{steps-of}
 use Rattle.engine.proofs.Plan.{Weights, total, total-append, after-access, bring-up-none, times, reads-in, reads-together, steps-total}
-use Rattle.engine.proofs.Goes.{Goes, done, halted, full, dry, wrote, took, whole-goes}
+use Rattle.engine.proofs.Goes.{Goes, done, halted, full, lacks, wrote, took, whole-goes}
 
 -- an access with DR's read code weighs 1
 abbrev pub D : ℕ → ℕ
@@ -50,7 +50,7 @@ unfolding received-of
 goes-received done = omega arith
 goes-received (halted e a) = omega arith
 goes-received (full a z) = omega arith
-goes-received (dry r a t) = omega arith
+goes-received (lacks r a t) = omega arith
 goes-received {s} (wrote {i} {p} {l} r v a t g) =
     omega (arith, received-entry (record { code = r; value = v }) l, goes-received g, rw a at (after-access D D data-weights s i p v))
 goes-received {s} (took {i} {p} {l} r w a t g) =

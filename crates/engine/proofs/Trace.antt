@@ -16,7 +16,7 @@ use Rattle.registers.specs.declared.Awaited.{Awaited}
 use Rattle.registers.specs.Word.{has, SB, BERR, STOP}
 use Rattle.registers.specs.Access.{CYC, wCR1, wSR1, Ending, number}
 use Rattle.registers.specs.Machine.{Step, Handler, Access, access, next, check-word, after-check, poll-word, poll-error, poll-ready, after-poll, handle, stop-for, since}
-use Rattle.engine.proofs.Goes.{Goes, done, halted, full, dry, wrote, took, error-number}
+use Rattle.engine.proofs.Goes.{Goes, done, halted, full, lacks, wrote, took, error-number}
 
 -- an entry is of the access that a step makes
 abbrev pub Made : Access → Entry → Type 0
@@ -37,7 +37,7 @@ unfolding Trace number
 goes-trace done z = tt
 goes-trace (halted e a) z = absurd (omega (arith, error-number e))
 goes-trace (full a h) z = absurd (omega arith)
-goes-trace (dry r a t) z = absurd (omega arith)
+goes-trace (lacks r a t) z = absurd (omega arith)
 goes-trace (wrote r v a t g) z = (rw a (refl, refl), goes-trace g z)
 goes-trace (took r w a t g) z = (rw a refl, goes-trace g z)
 

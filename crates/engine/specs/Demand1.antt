@@ -30,6 +30,14 @@ unfoldable pub answered : List Entry → List ℕ → List Entry
 answered [] rs = []
 answered (e ∷ es) rs = answer (is-read (e .code)) e (answered es) rs
 
+-- a log lacks a reading: all are used, there is room for an entry, and the next access is a read of one register, whatever the further reading is that the longer log has
+pub record LacksReading (log : List Entry) (readings : List ℕ) (room : ℕ) (longer : ℕ → List Entry) : Type 0 where
+  pub all-used : reads log ≡ length readings
+  pub fits : length log < room
+  pub code : ℕ
+  pub of-read : is-read code ≡ true
+  pub next : (reading : ℕ) → take (length log + 1) (longer reading) ≡ log ++ record { code = code; value = cut code reading } ∷ []
+
 -- the accesses of the run of a list on readings, with a received buffer of rx bytes and a record of so many words
 abbrev pub accesses : (list readings : List ℕ) (rx words : ℕ) → List Entry
 accesses list readings rx words = flat (run list readings rx words .log)
@@ -42,14 +50,6 @@ module _ (list readings : List ℕ) (rx words : ℕ) where
   abbrev pub log : List Entry
   log = accesses list readings rx words
 
-  -- it lacks a reading: all are used, an entry still fits the record, and the next access is a read of one register, whatever a further reading is
-  pub record LacksReading : Type 0 where
-    pub all-used : reads log ≡ length readings
-    pub fits : length log < entries-in words
-    pub code : ℕ
-    pub of-read : is-read code ≡ true
-    pub next : (reading : ℕ) → take (length log + 1) (accesses list (readings ++ reading ∷ []) rx words) ≡ log ++ record { code = code; value = cut code reading } ∷ []
-
   -- what holds of it
   pub record Demand1 : Type 0 where
     -- the answer is one of document 01's numbers: at most 10 where the list is accepted, and from 20 on where it is refused
@@ -61,9 +61,11 @@ module _ (list readings : List ℕ) (rx words : ℕ) where
     -- 0: every call of the list ended well
     pub well : ran .answer ≡ 0 → ran .calls ≡ length (calls-of list)
     -- 9: the next access is a read and every reading is used
-    pub no-reading : ran .answer ≡ 9 → LacksReading
+    pub no-reading : ran .answer ≡ 9 → LacksReading log readings (entries-in words) (λ reading. accesses list (readings ++ reading ∷ []) rx words)
     -- 10: no entry fits the rest of the record
     pub no-record : ran .answer ≡ 10 → length log ≡ entries-in words
+    -- every call that ended well was begun, and at most one more
+    pub begun : (ran .calls ≤ length (ran .log .begun)) × (length (ran .log .begun) ≤ ran .calls + 1)
     -- the readings used are the ones taken
     pub taken : answered log readings ≡ log
     -- every run ends: with no more accesses than fit the record, no more readings than given, no more bytes than the buffer
