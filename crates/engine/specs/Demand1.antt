@@ -30,7 +30,8 @@ unfoldable pub answered : List Entry → List ℕ → List Entry
 answered [] rs = []
 answered (e ∷ es) rs = answer (is-read (e .code)) e (answered es) rs
 
--- a log lacks a reading: all are used, there is room for an entry, and the next access is a read of one register, whatever the further reading is that the longer log has
+-- a log lacks a reading: all are used, there is room for an entry, and the next access is a read of one register
+-- `longer` is the log with a further reading: it goes on with that read, whatever the reading is
 pub record LacksReading (log : List Entry) (readings : List ℕ) (room : ℕ) (longer : ℕ → List Entry) : Type 0 where
   pub all-used : reads log ≡ length readings
   pub fits : length log < room
@@ -55,8 +56,8 @@ module _ (list readings : List ℕ) (rx words : ℕ) where
     -- the answer is one of document 01's numbers: at most 10 where the list is accepted, and from 20 on where it is refused
     pub answer : known (ran .answer) ≡ true
     pub accepted : refusal list rx ≡ 0 → ran .answer ≤ 10
-    -- a refused list gets its cause, makes no access, has zero counts and changes no buffer
-    pub refused : (refusal list rx ≡ 0 → ⊥) → (20 ≤ ran .answer) × (ran .answer ≡ refusal list rx) × (ran .calls ≡ 0) × (log ≡ [])
+    -- a refused list gets its cause, begins no call, makes no access, has zero counts and changes no buffer
+    pub refused : (refusal list rx ≡ 0 → ⊥) → (20 ≤ ran .answer) × (ran .answer ≡ refusal list rx) × (ran .calls ≡ 0) × (ran .log ≡ record { opening = []; begun = [] })
     pub unchanged : (refusal list rx ≡ 0 → ⊥) → (buffer : List ℕ) → (filled buffer (record-of log) ≡ buffer) × (filled buffer (received-of log) ≡ buffer)
     -- 0: every call of the list ended well
     pub well : ran .answer ≡ 0 → ran .calls ≡ length (calls-of list)
