@@ -21,7 +21,7 @@
 //! the bus; here every register always shows C7 hexadecimal, that is, every flag the engine waits for.
 //!
 //! ```
-//! use vandhukril::{BusList, Hertz, Mode, Settings};
+//! use vandhukril::{ACCESS_WORDS, BusList, Hertz, Mode, Settings, accesses};
 //!
 //! let settings = Settings::new(Hertz(36_000_000), Mode::Standard, Hertz(100_000));
 //! let mut list = BusList::new(settings);
@@ -34,7 +34,7 @@
 //!
 //! assert_eq!(counts.calls, 2);
 //! assert_eq!(received[..counts.received], [0xc7, 0xc7]);
-//! for access in vandhukril::accesses(&record[..2 * counts.accesses]) {
+//! for access in accesses(&record[..ACCESS_WORDS * counts.accesses]) {
 //!     println!("{access}");
 //! }
 //! # Ok::<(), Box<dyn std::error::Error>>(())
@@ -58,6 +58,6 @@ pub mod speed;
 
 pub use error::{Cause, DoesNotFit, Error, NoAcknowledge, Refusal};
 pub use list::{Address, BusList, Call, Fault, Kind, Operation, explain, show};
-pub use record::{Access, Direction, Register, Report, accesses};
+pub use record::{ACCESS_WORDS, Access, Direction, Register, Report, accesses};
 pub use run::{Counts, answer, run};
 pub use settings::{Hertz, Micros, Mode, Settings};

@@ -110,6 +110,9 @@ impl fmt::Display for Access {
     }
 }
 
+/// The words of one access in a record: its code and its value.
+pub const ACCESS_WORDS: usize = 2;
+
 /// The accesses in the words of a record. A single word at the end is no access.
 ///
 /// ```
@@ -122,7 +125,7 @@ impl fmt::Display for Access {
 /// ```
 pub fn accesses(record: &[u32]) -> impl Iterator<Item = Access> {
     record
-        .as_chunks()
+        .as_chunks::<ACCESS_WORDS>()
         .0
         .iter()
         .map(|&[code, value]| Access { code, value })

@@ -5,7 +5,7 @@ mod common;
 use std::thread;
 
 use common::{OLD_BYTE, OLD_WORD, READY, Ran, every_kind, run_with, settings};
-use vandhukril::{BusList, Hertz, Micros, Mode, Settings, run};
+use vandhukril::{ACCESS_WORDS, BusList, Hertz, Micros, Mode, Settings, run};
 
 /// A list with readings to run it on.
 struct Case {
@@ -130,9 +130,9 @@ impl Whole {
     fn expected(&self, readings: usize, words: usize) -> (u32, usize) {
         let mut used = 0;
         let (record, _) = self.ran.written();
-        for (made, pair) in record.chunks_exact(2).enumerate() {
+        for (made, pair) in record.chunks_exact(ACCESS_WORDS).enumerate() {
             let reads = pair[0] <= 5;
-            if words < 2 * made + 2 {
+            if words < ACCESS_WORDS * (made + 1) {
                 return (10, made);
             }
             if reads && used == readings {
@@ -140,9 +140,9 @@ impl Whole {
             }
             used += usize::from(reads);
         }
-        let made = record.len() / 2;
+        let made = record.len() / ACCESS_WORDS;
         // A whole run that lacked a reading wanted one access more, and the record is tested first.
-        if self.ran.answer() == 9 && words < 2 * made + 2 {
+        if self.ran.answer() == 9 && words < ACCESS_WORDS * (made + 1) {
             return (10, made);
         }
         (self.ran.answer(), made)
@@ -170,7 +170,7 @@ impl Whole {
 fn every_length_of_the_record() {
     for case in cases() {
         let whole = whole(&case);
-        for words in 0..2 * whole.ran.counts().accesses + 5 {
+        for words in 0..ACCESS_WORDS * whole.ran.counts().accesses + 5 {
             whole.try_lengths(&case.readings, whole.received_length, words);
         }
     }
@@ -200,7 +200,7 @@ fn every_number_of_readings() {
 fn every_length_of_both_buffers() {
     for case in cases() {
         let whole = whole(&case);
-        let most = (2 * whole.ran.counts().accesses + 3).min(60);
+        let most = (ACCESS_WORDS * whole.ran.counts().accesses + 3).min(60);
         for received_length in 0..whole.received_length + 3 {
             for words in 0..most {
                 whole.try_lengths(&case.readings, received_length, words);
@@ -297,8 +297,8 @@ fn an_error_flag_at_every_reading() {
                 .zip(well_record)
                 .take_while(|(a, b)| a == b)
                 .count();
-            let reads = well_record[..same & !1]
-                .chunks_exact(2)
+            let reads = well_record[..same]
+                .chunks_exact(ACCESS_WORDS)
                 .filter(|pair| pair[0] <= 5);
             assert!(reads.count() >= place, "reading {place}, flag {flag:#x}");
         }

@@ -1,6 +1,6 @@
 -- Steps whose waits leave an error to the handler `stops`: nothing later matters after it, so such waits compose to one. And one byte of a read.
 -- Assumes nothing.
-use Prim.Native.Nat.{ℕ, zero, suc}
+use Prim.Native.Nat.{ℕ}
 use native.Mathlib.Omega.{arith}
 use mathlib.Core.Bool.{true, false}
 use mathlib.Core.Path.{_≡_, refl, sym, _∙_}
@@ -12,9 +12,9 @@ use Rattle.registers.specs.declared.Outcome.{Outcome}
 use Rattle.registers.specs.Word.{with-bits, without-bits, one, none, STOP}
 use Rattle.registers.specs.Access.{CR1, wCR1, is-read}
 use Rattle.registers.specs.Machine.{Step, Handler, handle, stop-for, next}
-use Rattle.registers.specs.State.{State, After, Took, at, then, taking, resume, room, left, read-one, read, write-one, write, received, entry}
+use Rattle.registers.specs.State.{State, After, Took, at, then, taking, resume, read, write, received, entry}
 use Rattle.registers.specs.Contract.{outcome, handled, Refines, Reaches, WaitsFrom}
-use Rattle.registers.proofs.Laws.{read-law, write-law, fail-law, done-law}
+use Rattle.registers.proofs.Laws.{read-law, write-law, write-unfailed, fail-law, done-law}
 use Rattle.registers.proofs.Steps.{NotWell, not-first}
 use Rattle.blocking.specs.Blocking.{receive, receive-bytes}
 
@@ -40,7 +40,6 @@ stop-same s e p p′ st = read-law s _ CR1 _ st refl refl ∙ taken (read CR1 st
         let x = without-bits none (with-bits (one STOP) v) in
         let st″ = received (entry CR1 v) st′ in
         write-law s wCR1 x (Step.fail e ∷ p) st″ refl ∙ written (write wCR1 x st″) ∙ sym (write-law s wCR1 x (Step.fail e ∷ p′) st″ refl)
-    taken (Took.failed e′ st′) = refl
     taken (Took.cut-short c st′) = refl
 
 stops-same : (s : Setup) (e : BusError) (p p′ : List Step) (st : State) → resume s (handle s Handler.stops e ++ p) st ≡ resume s (handle s Handler.stops e ++ p′) st
@@ -76,22 +75,20 @@ pub nothing-fails : {s : Setup} → Unfailing s []
 nothing-fails {s} = record { is = λ st e st′ h. let k = done-law s st in let z : _≡_ {A = ℕ} 0 1 = cc in omega arith }
 
 pub get-unfailing : {s : Setup} (c : ℕ) → is-read c ≡ true → {q : List Step} → Unfailing s q → Unfailing s (Step.get c ∷ q)
-unfolding next read read-one
-get-unfailing {s} c t {q} u = record { is = λ st e st′ h. go st e st′ (left st) (room st) (sym (read-law s (Step.get c) c q st refl t) ∙ h) }
+unfolding next
+get-unfailing {s} c t {q} u = record { is = λ st e st′ h. go e st′ (read c st) (sym (read-law s (Step.get c) c q st refl t) ∙ h) }
   where
-    go : (st : State) (e : BusError) (st′ : State) (rs : List ℕ) (n : ℕ)
-        → taking (read-one c st rs n) (λ v st″. resume s q (received (entry c v) st″)) ≡ After.failed e st′ → ⊥
-    go st e st′ rs zero h = let z : _≡_ {A = ℕ} 0 1 = cc in omega arith
-    go st e st′ [] (suc n) h = let z : _≡_ {A = ℕ} 0 1 = cc in omega arith
-    go st e st′ (w ∷ rs) (suc n) h = u .is _ e st′ h
+    go : (e : BusError) (st′ : State) (w : Took) → taking w (λ v st″. resume s q (received (entry c v) st″)) ≡ After.failed e st′ → ⊥
+    go e st′ (Took.word v st″) h = u .is _ e st′ h
+    go e st′ (Took.cut-short k st″) h = let z : _≡_ {A = ℕ} 0 1 = cc in omega arith
 
 pub put-unfailing : {s : Setup} (c v : ℕ) → is-read c ≡ false → {q : List Step} → Unfailing s q → Unfailing s (Step.put c v ∷ q)
-unfolding write write-one
-put-unfailing {s} c v t {q} u = record { is = λ st e st′ h. go st e st′ (room st) (sym (write-law s c v q st t) ∙ h) }
+put-unfailing {s} c v t {q} u = record { is = λ st e st′ h. go st e st′ (write c v st) refl (sym (write-law s c v q st t) ∙ h) }
   where
-    go : (st : State) (e : BusError) (st′ : State) (n : ℕ) → then (write-one c v st n) (resume s q) ≡ After.failed e st′ → ⊥
-    go st e st′ zero h = let z : _≡_ {A = ℕ} 0 1 = cc in omega arith
-    go st e st′ (suc n) h = u .is _ e st′ h
+    go : (st : State) (e : BusError) (st′ : State) (w : After) → w ≡ write c v st → then w (resume s q) ≡ After.failed e st′ → ⊥
+    go st e st′ (After.going st″) k h = u .is _ e st′ h
+    go st e st′ (After.failed e″ st″) k h = write-unfailed c v st k
+    go st e st′ (After.cut-short a st″) k h = let z : _≡_ {A = ℕ} 0 1 = cc in omega arith
 
 -- so no error of theirs is left to a handler
 pub settles : {s : Setup} {h : Handler} {q : List Step} {st : State} {rs lg rx : List ℕ} {o : Outcome} → Unfailing s q → Refines s q st rs lg rx o → WaitsFrom s h q st rs lg rx o

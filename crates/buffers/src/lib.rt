@@ -1,5 +1,10 @@
-// Parts of buffers and words out of bytes, for the programs.
+// Parts of buffers, words out of bytes and entries out of a record, for the programs.
 use engine::Counts;
+use registers::ENTRY_WORDS;
+use registers::Entry;
+ghost use mathlib.Core.Path.{_≡_};
+ghost use lib.ListN.{length};
+ghost use Rattle.registers.specs.Access.{entries-in};
 
 // The first `count` bytes.
 pub fn first_bytes(bytes: &[u8], count: usize) -> &[u8] {
@@ -44,6 +49,32 @@ pub fn to_words(bytes: &[u8], words: &mut [u32]) -> usize {
         k += 1;
     }
     k
+}
+
+// How many entries a record holds.
+pub fn entries_in(log: &[u32]) -> usize
+    ensures { λ r. ⌜ r ≡ entries-in (length (now (log .entry))) ⌝ }
+{
+    log.len() / ENTRY_WORDS
+}
+
+// The words of the first `count` entries of a record.
+pub fn first_entries(log: &[u32], count: usize) -> &[u32] {
+    if count <= entries_in(log) {
+        return &log[..ENTRY_WORDS * count];
+    }
+    log
+}
+
+// Entry number `k` of a record; zeros past the end.
+pub fn entry_at(log: &[u32], k: usize) -> Entry {
+    if entries_in(log) <= k {
+        return Entry { code: 0, value: 0 };
+    }
+    Entry {
+        code: log[ENTRY_WORDS * k],
+        value: log[ENTRY_WORDS * k + 1],
+    }
 }
 
 // The run with buffers of the case's lengths.

@@ -1,3 +1,4 @@
 pub mod Walk
 pub mod Accept
 pub mod Parts
+pub mod Encode

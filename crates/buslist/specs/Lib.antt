@@ -3,3 +3,4 @@ pub mod Table
 pub mod Form
 pub mod Refusal
 pub mod Meaning
+pub mod Encode

@@ -1,5 +1,6 @@
 // Runs the bus list in `list.bin` on the readings in `readings.bin`, both in the current folder, and prints every
 // access, the received bytes and how the run ended.
+use buffers::entry_at;
 use buffers::first_bytes;
 use buffers::first_words;
 use engine::Counts;
@@ -45,10 +46,7 @@ fn read_file(name: &[u8], buf: &mut [u8]) -> File {
 
 // Access number `k` of the record, on a line of its own.
 fn print_access(log: &[u32], k: usize) -> bool {
-    if log.len() / 2 <= k {
-        return true;
-    }
-    show::access(log[2 * k], log[2 * k + 1]) && show::line_end()
+    show::access(entry_at(log, k)) && show::line_end()
 }
 
 fn print_accesses(log: &[u32], made: usize) -> bool {

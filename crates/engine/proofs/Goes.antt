@@ -113,7 +113,7 @@ error-number BusError.ArbitrationLoss = (omega arith, omega arith)
 pub cut-number : (c : Cut) → (9 ≤ number (Ending.cut-short c)) × (number (Ending.cut-short c) ≤ 10)
 unfolding number
 cut-number Cut.NoReadings = (omega arith, omega arith)
-cut-number Cut.NoRecord = (omega arith, omega arith)
+cut-number (Cut.NoRecord w) = (omega arith, omega arith)
 
 -- calls go as all their steps in one
 run-goes : (s : Setup) (cs : List (List Step)) (n : ℕ) (rs : List ℕ) → misused (flatten cs) ≡ 0 → Goes s (flatten cs) n rs (flatten (run s cs n rs .begun)) (run s cs n rs .ending)

@@ -1,8 +1,10 @@
--- For a walk of a function that passes the four slices of a run on to one callee for good, each at its own lifetime, share and name, where one of the two takes one parameter more, at the end.
---     every                formulas under ∗, with `true` at the end: as a signature's tokens, what its parameters own, and what is said of their last values are made
---     last-out, last-in    the last of such a list is taken out, and put in
---     stay-said            what a function's proof has at exit of a parameter that it has passed on for good: what the callee says of its last value, and no more.        goes-said      the law for it
---     tokens, values, owns, said    of the four slices: their lifetimes' tokens, their machine values, what they own at those, and what is said of their last values.        Are      their relations at those values
+-- For the proofs by hand of two functions that only hand on the list, the readings, the received buffer and the record: `run_into` to `run`, and `run_counted` to `run_into`.
+-- Of caller and callee, one has one parameter more, at the end.
+--     every                     a list of formulas as one formula: so a signature has its lifetimes' tokens, what its parameters own, and what is said of their last values
+--     last-out, last-in         the last formula of such a list is taken out, and put in
+--     stay-said, goes-said      of a slice that was handed on, what is known at the return is what the callee says of its last value; and the law for that
+--     Slices, Values, values    the four slices, their machine values, and the values of given slices
+--     tokens, owns, said, Are   of the four slices: their lifetimes' tokens, what they own, what is said of their last values, and that the values are theirs
 -- `last-out`, `last-in` and `goes-said` take the model, and `goes-said` takes `Given`. The rest assumes nothing.
 use Prim.Native.Nat.{ℕ}
 use mathlib.Core.List.{List, [], _∷_, _++_}

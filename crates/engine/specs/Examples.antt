@@ -1,14 +1,17 @@
 -- Document 01's proved examples, in one table over the meanings.
-use Prim.Native.Nat.{ℕ, _+_, _/_, _%_}
+use Prim.Native.Nat.{ℕ}
 use mathlib.Core.Path.{_≡_, refl}
-use mathlib.Core.List.{List, [], _∷_, _++_, flatten}
+use mathlib.Core.List.{List, [], _∷_, flatMap, flatten}
 use Rattle.buslist.specs.Bytes.{half, word}
 use Rattle.buslist.specs.Table.{settings-of, call-at, operation-at, entries}
 use Rattle.buslist.specs.Form.{header-right, written, operation-right, operations-right, has-directions, kind-right, call-right, calls-right, of-the-form}
 use Rattle.buslist.specs.Refusal.{any, over-limit, timeout-out, received, all-received, causes, first-cause, refusal}
+use Rattle.units.specs.declared.Mode.the-variants.{Standard}
+use Rattle.units.specs.declared.Settings.{Settings}
 use Rattle.units.specs.declared.Setup.{Setup}
 use Rattle.units.specs.Setup.{setup-of}
 use Rattle.buslist.specs.Meaning.{Operation, write, Call, operation-of}
+use Rattle.buslist.specs.Encode.{half-bytes, word-bytes, header, call-entries, call-bytes, operation-entries, operation-bytes, encode}
 use Rattle.registers.specs.declared.Source.{Source}
 use Rattle.registers.specs.declared.BusError.{BusError}
 use Rattle.registers.specs.declared.Flagged.{Flagged}
@@ -22,36 +25,35 @@ use Rattle.engine.specs.Run.{Result, run, result, accepted-run, counts-o
 use Rattle.engine.specs.Compare.{gather, joined, reduced-operations, reduced}
 use Rattle.engine.specs.Speed.{speed-cr2, speed-trise, speed-ccr}
 
--- 16 and 32 bits, little-endian
-pub halves : List ℕ → List ℕ
-halves [] = []
-halves (n ∷ ns) = n % 256 ∷ n / 256 ∷ halves ns
+-- settings at 36 MHz, Standard: sysclk, frequency, start timeout, start retries, address timeout, data timeout
+abbrev pub settings : ℕ → ℕ → ℕ → ℕ → ℕ → ℕ → Settings
+settings sysclk frequency start retries address «data» =
+    record {
+      pclk1 = record { 0 = 36000000 };
+      sysclk = record { 0 = sysclk };
+      mode = Standard;
+      frequency = record { 0 = frequency };
+      «start_timeout» = record { 0 = start };
+      «start_retries» = retries;
+      «addr_timeout» = record { 0 = address };
+      «data_timeout» = record { 0 = «data» };
+    }
 
-pub words : List ℕ → List ℕ
-words [] = []
-words (n ∷ ns) = n % 256 ∷ n / 256 % 256 ∷ n / 65536 % 256 ∷ n / 16777216 ∷ words ns
-
--- the eight settings words: pclk1, sysclk, mode, frequency, start timeout, start retries, address timeout, data timeout
-pub settings : ℕ → ℕ → ℕ → ℕ → ℕ → ℕ → ℕ → ℕ → List ℕ
-settings pclk1 sysclk mode frequency start retries address «data» =
-    pclk1 ∷ sysclk ∷ mode ∷ frequency ∷ start ∷ retries ∷ address ∷ «data» ∷ []
+-- a call of these operations to 50 hex
+abbrev pub call-to : ℕ → List Operation → Call
+call-to kind os = record { kind = kind; address = 0x50; operations = os }
 
 -- the list of a polling write of 2A to 50 hex with these settings
-pub write-list : List ℕ → List ℕ
-unfolding words halves
-write-list s =
-    words (1 ∷ 64 ∷ 1 ∷ 72 ∷ 1 ∷ 80 ∷ s ++ 0 ∷ 0 ∷ [])
-    ++ (0 ∷ 7 ∷ halves (0x50 ∷ 0 ∷ 1 ∷ []))
-    ++ (0 ∷ 0 ∷ halves (1 ∷ []) ++ words (0 ∷ []))
-    ++ (0x2a ∷ [])
+pub write-list : Settings → List ℕ
+write-list s = encode s (call-to 0 (write (0x2a ∷ []) ∷ []) ∷ [])
 
--- the same at 36 MHz, Standard, with this frequency and other settings 0
+-- the same with this frequency and other settings 0
 pub at-frequency : ℕ → List ℕ
-at-frequency frequency = write-list (settings 36000000 0 0 frequency 0 0 0 0)
+at-frequency frequency = write-list (settings 0 frequency 0 0 0 0)
 
 -- the same with sysclk 72 MHz and these timeouts
 pub with-timeouts : ℕ → ℕ → ℕ → List ℕ
-with-timeouts start address «data» = write-list (settings 36000000 72000000 0 100000 start 0 address «data»)
+with-timeouts start address «data» = write-list (settings 72000000 100000 start 0 address «data»)
 
 -- the record words of the run that document 01 prints: code and value of each access
 pub printed : List ℕ
@@ -61,12 +63,7 @@ printed =
 
 -- its run: 36 MHz, Standard 100,000, other settings 0, with these readings and the buffers of `busrun`
 pub first-run : Result
-unfolding at-frequency write-list settings words halves
 first-run = run (at-frequency 100000) (0 ∷ 1 ∷ 1 ∷ 1 ∷ 1 ∷ 3 ∷ 2 ∷ 7 ∷ 0x80 ∷ 0x84 ∷ 1 ∷ 1 ∷ []) 4096 16000
-
--- a call of these operations to 50 hex
-abbrev pub call-to : ℕ → List Operation → Call
-call-to kind os = record { kind = kind; address = 0x50; operations = os }
 
 pub record Table : Type 0 where
   -- the run printed in document 01: record, received bytes, and all five numbers
@@ -88,22 +85,22 @@ pub record Table : Type 0 where
   pub p7-start : refusal (with-timeouts 59652324 59652323 59652323) 0 ≡ 23
   pub p7-address : refusal (with-timeouts 59652323 59652324 59652323) 0 ≡ 23
   pub p7-data : refusal (with-timeouts 59652323 59652323 59652324) 0 ≡ 23
-  -- start 4,294,967,290, now 4: limit 10 out, 11 not
-  pub p8-out : (s : Setup) (w : Awaited) → next s (Step.late w 10 Handler.ends 4294967290) 4 ≡ Step.fail BusError.Timeout ∷ []
-  pub p8-in : (s : Setup) (w : Awaited) → next s (Step.late w 11 Handler.ends 4294967290) 4 ≡ Step.poll w 11 Handler.ends 4294967290 ∷ []
+  -- start 4,294,967,290, now 4: limit 10 out, 11 not: every timed wait, whatever it does with an error
+  pub p8-out : (s : Setup) (w : Awaited) (h : Handler) → next s (Step.late w 10 h 4294967290) 4 ≡ handle s h BusError.Timeout
+  pub p8-in : (s : Setup) (w : Awaited) (h : Handler) → next s (Step.late w 11 h 4294967290) 4 ≡ Step.poll w 11 h 4294967290 ∷ []
   -- SR1 0C00 hex: polling Overrun, blocking NoAcknowledge
   pub p9-polling : (n : Source) → check-word n 0x0c00 ≡ Flagged.Error BusError.Overrun
   pub p9-blocking : (n : Source) → poll-word n 0x0c00 ≡ Flagged.Error (BusError.NoAcknowledge n)
   -- writes 1 and 2 reduce as one write of both
   pub p10 : reduced (call-to 3 (write (1 ∷ []) ∷ write (2 ∷ []) ∷ [])) ≡ reduced (call-to 0 (write (1 ∷ 2 ∷ []) ∷ []))
 
--- names all that `refusal` computes by, so that `unfolding computed` opens it
-computed : List ℕ → ℕ → ℕ
-unfolding refusal causes first-cause over-limit timeout-out any received all-received of-the-form header-right written operation-right operations-right has-directions kind-right call-right calls-right settings-of call-at operation-at entries half word at-frequency with-timeouts write-list settings
+-- names all that `refusal` of a written list computes by, so that `unfolding computed` opens it
+unfoldable pub computed : List ℕ → ℕ → ℕ
+unfolding refusal causes first-cause over-limit timeout-out any received all-received of-the-form header-right written operation-right operations-right has-directions kind-right call-right calls-right settings-of call-at operation-at entries half word at-frequency with-timeouts write-list encode header call-entries call-bytes operation-entries operation-bytes word-bytes half-bytes flatMap
 computed l rx = refusal l rx
 
--- names all that a run computes by
-ran : List ℕ → List ℕ → ℕ → ℕ → Result
+-- names all that a polling run computes by
+unfoldable pub ran : List ℕ → List ℕ → ℕ → ℕ → Result
 unfolding run result accepted-run counts-of setup-of steps-of operations-steps engine-of early operation-of has with-bit without-bit cut clear-word record-of reads received-of number check-word after-check next exec exec-on exec-full perform no-room after-call after-bring-up machine-run whole-run flatten handle write-bytes last-read turn turn-write turn-read transfer polling-steps
 ran l rs rx words = run l rs rx words
 
@@ -123,8 +120,8 @@ table =
       p7-start = refl;
       p7-address = refl;
       p7-data = refl;
-      p8-out = λ s w. refl;
-      p8-in = λ s w. refl;
+      p8-out = λ s w h. refl;
+      p8-in = λ s w h. refl;
       p9-polling = λ n. refl;
       p9-blocking = λ n. refl;
       p10 = refl;

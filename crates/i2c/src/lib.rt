@@ -6,6 +6,9 @@ use registers::Flagged;
 use registers::Outcome;
 use registers::Progress;
 use registers::Source;
+use registers::Taken;
+use registers::check_outcome;
+use registers::checked_of;
 use registers::clear_flag;
 use registers::failed_of;
 use registers::get;
@@ -143,16 +146,16 @@ fn check_and_clear_error_flags(
 ) -> Checked
     ensures { λ r. ⌜ Checks source readings log progress r ⌝ }
 {
-    let c = read(readings, log, progress, registers::SR1);
-    let Checked::Word(sr1, next) = c else {
-        return c;
+    let t = read(readings, log, progress, registers::SR1);
+    let Taken::Word(sr1, next) = t else {
+        return checked_of(t);
     };
     let flagged = first_error(sr1, source);
     if let Flagged::Error(error) = flagged {
         return failed_of(clear_flag(log, next, error), error);
     }
     if !has(sr1, registers::BERR) {
-        return c;
+        return checked_of(t);
     }
     word_of(clear_flag(log, next, BusError::Bus), sr1)
 }
@@ -163,9 +166,9 @@ fn until_stop_clear(readings: &[u32], log: &mut [u32], progress: Progress) -> Ou
 {
     let mut progress = progress;
     loop {
-        let c = read(readings, log, progress, registers::CR1);
-        let Checked::Word(cr1, next) = c else {
-            return outcome_of(c);
+        let t = read(readings, log, progress, registers::CR1);
+        let Taken::Word(cr1, next) = t else {
+            return outcome_of(t);
         };
         progress = next;
         if !has(cr1, registers::STOP) {
@@ -189,7 +192,7 @@ fn check_until(
     loop {
         let c = check_and_clear_error_flags(readings, log, progress, source);
         let Checked::Word(sr1, next) = c else {
-            return outcome_of(c);
+            return check_outcome(c);
         };
         progress = next;
         if has(sr1, flag) {
@@ -206,11 +209,11 @@ fn check_master(readings: &[u32], log: &mut [u32], progress: Progress) -> Outcom
     loop {
         let c = check_and_clear_error_flags(readings, log, progress, Source::Unknown);
         let Checked::Word(_, next) = c else {
-            return outcome_of(c);
+            return check_outcome(c);
         };
-        let d = read(readings, log, next, registers::SR2);
-        let Checked::Word(sr2, last) = d else {
-            return outcome_of(d);
+        let t = read(readings, log, next, registers::SR2);
+        let Taken::Word(sr2, last) = t else {
+            return outcome_of(t);
         };
         progress = last;
         if has(sr2, registers::MSL) {
@@ -237,11 +240,11 @@ fn check_twice(
     loop {
         let c = check_and_clear_error_flags(readings, log, progress, source);
         let Checked::Word(_, next) = c else {
-            return outcome_of(c);
+            return check_outcome(c);
         };
-        let d = read(readings, log, next, registers::SR1);
-        let Checked::Word(sr1, last) = d else {
-            return outcome_of(d);
+        let t = read(readings, log, next, registers::SR1);
+        let Taken::Word(sr1, last) = t else {
+            return outcome_of(t);
         };
         progress = last;
         if has(sr1, flag) {
@@ -257,9 +260,9 @@ fn until_flag(readings: &[u32], log: &mut [u32], progress: Progress, flag: u32) 
 {
     let mut progress = progress;
     loop {
-        let c = read(readings, log, progress, registers::SR1);
-        let Checked::Word(sr1, next) = c else {
-            return outcome_of(c);
+        let t = read(readings, log, progress, registers::SR1);
+        let Taken::Word(sr1, next) = t else {
+            return outcome_of(t);
         };
         progress = next;
         if has(sr1, flag) {
@@ -274,9 +277,9 @@ fn until_master(readings: &[u32], log: &mut [u32], progress: Progress) -> Outcom
 {
     let mut progress = progress;
     loop {
-        let c = read(readings, log, progress, registers::SR2);
-        let Checked::Word(sr2, next) = c else {
-            return outcome_of(c);
+        let t = read(readings, log, progress, registers::SR2);
+        let Taken::Word(sr2, next) = t else {
+            return outcome_of(t);
         };
         progress = next;
         if has(sr2, registers::MSL) {
@@ -470,13 +473,9 @@ fn read_wo_prepare(
         return a;
     };
     // NACK, then STOP after the next byte.
-    let b = modify_cr1(
-        readings,
-        log,
-        progress1,
-        Bits(registers::STOP, 0),
-        Bits(registers::ACK, 0),
-    );
+    let stop = Bits(registers::STOP, 0);
+    let ack = Bits(registers::ACK, 0);
+    let b = modify_cr1(readings, log, progress1, stop, ack);
     let Outcome::Well(progress2) = b else {
         return b;
     };

@@ -11,6 +11,7 @@ use borrow.Author.Tests.{eq-eqb, ne-eqb, eqb-true, leb-false}
 use Rattle.units.specs.declared.Setup.{Setup}
 use Rattle.registers.specs.declared.Progress.{Progress}
 use Rattle.registers.specs.declared.BusError.{BusError}
+use Rattle.registers.specs.declared.Wanted.{Wanted}
 use Rattle.registers.specs.declared.Cut.{Cut}
 use Rattle.registers.specs.declared.Entry.{Entry}
 use Rattle.registers.specs.Access.{is-read, is-data, cut, CYC, DR, store, entries-in, Ending}
@@ -101,9 +102,41 @@ done-law s st = go (room st)
     go zero = refl
     go (suc n) = refl
 
+-- an access leaves less room
+pub read-room : (c : ℕ) (st : State) {v : ℕ} {st′ : State} → word v st′ ≡ read c st → room st′ < room st
+unfolding read read-one
+read-room c st {v} {st′} = go (left st) (room st) refl
+  where
+    go : (ws : List ℕ) (n : ℕ) → room st ≡ n → word v st′ ≡ read-one c st ws n → room st′ < room st
+    go ws zero h k = let z : _≡_ {A = ℕ} 0 1 = cc in absurd (omega arith)
+    go [] (suc n) h k = let z : _≡_ {A = ℕ} 0 1 = cc in absurd (omega arith)
+    go (w ∷ ws) (suc n) h k =
+        let x = entry c (cut c w) in
+        let e : st′ ≡ recorded x st = cc in
+        omega (arith, ap room e, room-recorded x st)
+
+pub write-room : (c v : ℕ) (st : State) {st′ : State} → going st′ ≡ write c v st → room st′ < room st
+unfolding write write-one
+write-room c v st {st′} = go (room st) refl
+  where
+    go : (n : ℕ) → room st ≡ n → going st′ ≡ write-one c v st n → room st′ < room st
+    go zero h k = let z : _≡_ {A = ℕ} 0 1 = cc in absurd (omega arith)
+    go (suc n) h k =
+        let e : st′ ≡ recorded (entry c v) st = cc in
+        omega (arith, ap room e, room-recorded (entry c v) st)
+
+-- a write meets no bus error
+pub write-unfailed : (c v : ℕ) (st : State) {e : BusError} {st′ : State} → After.failed e st′ ≡ write c v st → ⊥
+unfolding write write-one
+write-unfailed c v st {e} {st′} = go (room st)
+  where
+    go : (n : ℕ) → After.failed e st′ ≡ write-one c v st n → ⊥
+    go zero k = let z : _≡_ {A = ℕ} 0 1 = cc in omega arith
+    go (suc n) k = let z : _≡_ {A = ℕ} 0 1 = cc in omega arith
+
 -- one access at a state written out
 module _ (rs lg rx : List ℕ) (b : Progress) where
-  pub read-full : (c : ℕ) → entries-in (length lg) ≤ b .made → read c (at rs lg rx b) ≡ Took.cut-short Cut.NoRecord (at rs lg rx b)
+  pub read-full : (c : ℕ) → entries-in (length lg) ≤ b .made → read c (at rs lg rx b) ≡ Took.cut-short (Cut.NoRecord (Wanted.Read c)) (at rs lg rx b)
   unfolding read read-one room left
   read-full c h =
       let e : entries-in (length lg) - b .made ≡ 0 = omega arith in
@@ -124,7 +157,7 @@ module _ (rs lg rx : List ℕ) (b : Progress) where
       let n : entries-in (length lg) - b .made ≡ suc (entries-in (length lg) - b .made - 1) = omega arith in
       rw (n, drop-cons rs (b .used) 0 k, ← e, t, f)
 
-  pub write-full : (c v : ℕ) → entries-in (length lg) ≤ b .made → write c v (at rs lg rx b) ≡ After.cut-short Cut.NoRecord (at rs lg rx b)
+  pub write-full : (c v : ℕ) → entries-in (length lg) ≤ b .made → write c v (at rs lg rx b) ≡ After.cut-short (Cut.NoRecord (Wanted.Write c v)) (at rs lg rx b)
   unfolding write write-one room
   write-full c v h =
       let e : entries-in (length lg) - b .made ≡ 0 = omega arith in

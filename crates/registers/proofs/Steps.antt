@@ -13,33 +13,23 @@ use denote.Enum.Declared.{tagOf}
 use Rattle.units.specs.declared.Setup.{Setup}
 use Rattle.registers.specs.declared.Progress.{Progress}
 use Rattle.registers.specs.declared.BusError.{BusError}
-use Rattle.registers.specs.declared.Checked.{Checked}
+use Rattle.registers.specs.declared.Cut.{Cut}
+use Rattle.registers.specs.declared.Taken.{Taken}
 use Rattle.registers.specs.declared.Outcome.{Outcome}
-use Rattle.registers.proofs.Checked as C
 use Rattle.registers.proofs.Outcome as O
 use Rattle.registers.specs.Access.{CYC, DR, is-read, is-data, cut, entries-in}
 use Rattle.registers.specs.Machine.{Step, Handler, handle, Access, access, next}
 use Rattle.registers.specs.State.{State, After, Took, at, word, then, taking, entry, recorded, received, room, left, resume, read-one, read}
-use Rattle.registers.specs.Contract.{outcome, checked, outcome-of, handled, ReadsFrom, WritesFrom, Refines, Reaches, WaitsFrom}
-use Rattle.registers.proofs.Laws.{read-law, write-law, fail-law, done-law, received-other, resume-fewer}
+use Rattle.registers.specs.Contract.{outcome, taken, outcome-of, handled, ReadsFrom, WritesFrom, Refines, Reaches, WaitsFrom}
+use Rattle.registers.proofs.Laws.{read-law, write-law, fail-law, done-law, received-other, read-room, resume-fewer}
 
--- the tags of an answer that is no word, and of an outcome that is not well
-abbrev pub NoWord : Checked → Type 0
-NoWord r = OneOf (1 ∷ 2 ∷ []) (tagOf C.the-type r)
-
+-- the tags of an outcome that is not well
 abbrev pub NotWell : Outcome → Type 0
 NotWell o = OneOf (1 ∷ 2 ∷ []) (tagOf O.the-type o)
 
 -- no tag is two numbers at once
 pub not-first : {A : Type 0} → OneOf (1 ∷ 2 ∷ []) 0 → A
 not-first h = ⊎-elim (λ (e : _≡_ {A = ℕ} 0 1). absurd (omega arith)) (λ (e : _≡_ {A = ℕ} 0 2). absurd (omega arith)) h
-
--- an answer that is no word ends the run as its outcome does
-pub no-word : (r : Checked) → NoWord r → (rs lg rx : List ℕ) (k : ℕ → State → After) (k′ : State → After)
-    → taking (checked rs lg rx r) k ≡ then (outcome rs lg rx (outcome-of r)) k′
-no-word (Checked.Word v b) h rs lg rx k k′ = not-first h
-no-word (Checked.Failed e b) h rs lg rx k k′ = refl
-no-word (Checked.CutShort c b) h rs lg rx k k′ = refl
 
 not-well : (o : Outcome) → NotWell o → (rs lg rx : List ℕ) (k k′ : State → After)
     → then (outcome rs lg rx o) k ≡ then (outcome rs lg rx o) k′
@@ -57,13 +47,13 @@ rewritten e g = rw e at g
 
 -- a read that is no DR read, for the step i
 module _ {s : Setup} {q : List Step} {st : State} {i : Step} {q₁ : List Step} {st₁ : State} (g : Reaches s q st (i ∷ q₁) st₁)
-    {c : ℕ} {rs lg rx : List ℕ} {r : Checked} (x : ReadsFrom c st₁ rs lg rx r) (a : access i ≡ Access.read c) (t : is-read c ≡ true) where
-  pub read-step : is-data c ≡ false → {v : ℕ} {b : Progress} → r ≡ Checked.Word v b → {m : List Step} → next s i v ≡ m → Reaches s q st (m ++ q₁) (at rs lg rx b)
+    {c : ℕ} {rs lg rx : List ℕ} {r : Taken} (x : ReadsFrom c st₁ rs lg rx r) (a : access i ≡ Access.read c) (t : is-read c ≡ true) where
+  pub read-step : is-data c ≡ false → {v : ℕ} {b : Progress} → r ≡ Taken.Word v b → {m : List Step} → next s i v ≡ m → Reaches s q st (m ++ q₁) (at rs lg rx b)
   read-step u {v} {b} e {m} n =
       record { is = λ p. g .is p ∙ read-law s i c (q₁ ++ p) st₁ a t ∙ rw (← x .is, e, received-other (entry c v) (at rs lg rx b) u, n, append-assoc m q₁ p) }
 
-  pub read-stops : NoWord r → Refines s q st rs lg rx (outcome-of r)
-  read-stops h = record { is = λ p. g .is p ∙ read-law s i c (q₁ ++ p) st₁ a t ∙ rw (← x .is) (no-word r h rs lg rx _ (resume s p)) }
+  pub read-stops : {k : Cut} {b : Progress} → r ≡ Taken.CutShort k b → Refines s q st rs lg rx (outcome-of r)
+  read-stops e = record { is = λ p. g .is p ∙ read-law s i c (q₁ ++ p) st₁ a t ∙ rw (← x .is, e) }
 
 -- a write
 module _ {s : Setup} {q : List Step} {st : State} {c v : ℕ} {q₁ : List Step} {st₁ : State} (g : Reaches s q st (Step.put c v ∷ q₁) st₁)
@@ -93,15 +83,14 @@ ends-failed {s} {e = e} {q₁} g = record { is = λ p. g .is p ∙ fail-law s e 
 
 -- the last thing done is a read for its own sake, a write, or a call
 pub read-last : {s : Setup} {q : List Step} {st : State} {i : Step} {st₁ : State} (g : Reaches s q st (i ∷ []) st₁)
-    {c : ℕ} {rs lg rx : List ℕ} {r : Checked} (x : ReadsFrom c st₁ rs lg rx r) → access i ≡ Access.read c → is-read c ≡ true → is-data c ≡ false
+    {c : ℕ} {rs lg rx : List ℕ} {r : Taken} (x : ReadsFrom c st₁ rs lg rx r) → access i ≡ Access.read c → is-read c ≡ true → is-data c ≡ false
     → ((v : ℕ) → next s i v ≡ []) → Refines s q st rs lg rx (outcome-of r)
 read-last {s} {q} {st} {i} {st₁} g {c} {rs} {lg} {rx} {r} x a t u n = record { is = λ p. g .is p ∙ read-law s i c p st₁ a t ∙ rw (← x .is) (go p r) }
   where
-    go : (p : List Step) (r : Checked)
-        → taking (checked rs lg rx r) (λ v st′. resume s (next s i v ++ p) (received (entry c v) st′)) ≡ then (outcome rs lg rx (outcome-of r)) (resume s p)
-    go p (Checked.Word v b) = rw (n, received-other (entry c v) (at rs lg rx b) u)
-    go p (Checked.Failed e b) = refl
-    go p (Checked.CutShort c b) = refl
+    go : (p : List Step) (r : Taken)
+        → taking (taken rs lg rx r) (λ v st′. resume s (next s i v ++ p) (received (entry c v) st′)) ≡ then (outcome rs lg rx (outcome-of r)) (resume s p)
+    go p (Taken.Word v b) = rw (n, received-other (entry c v) (at rs lg rx b) u)
+    go p (Taken.CutShort c b) = refl
 
 pub write-last : {s : Setup} {q : List Step} {st : State} {c v : ℕ} {st₁ : State} → Reaches s q st (Step.put c v ∷ []) st₁
     → {rs lg rx : List ℕ} {o : Outcome} → WritesFrom c v st₁ rs lg rx o → is-read c ≡ false → Refines s q st rs lg rx o
@@ -112,46 +101,25 @@ pub call-last : {s : Setup} {q : List Step} {st : State} {q₁ : List Step} {st�
 call-last g x = record { is = λ p. g .is p ∙ x .is p }
 
 -- a read of DR: its low byte is received
-pub data-step : {s : Setup} {st : State} {rs lg rx : List ℕ} {r : Checked} → ReadsFrom DR st rs lg rx r → {v : ℕ} {b : Progress} → r ≡ Checked.Word v b
+pub data-step : {s : Setup} {st : State} {rs lg rx : List ℕ} {r : Taken} → ReadsFrom DR st rs lg rx r → {v : ℕ} {b : Progress} → r ≡ Taken.Word v b
     → {rx′ : List ℕ} {b′ : Progress} → received (entry DR v) (at rs lg rx b) ≡ at rs lg rx′ b′ → Refines s (Step.get DR ∷ []) st rs lg rx′ (Outcome.Well b′)
 unfolding next
 data-step {s} {st} x e f = record { is = λ p. read-law s (Step.get DR) DR p st refl refl ∙ rw (← x .is, e, f) }
 
--- the accesses that still fit
-abbrev pub fitting : List ℕ → Progress → ℕ
-fitting lg b = entries-in (length lg) - b .made
-
--- what a word read says of them: fewer
-pub record Fell (lg : List ℕ) (b b′ : Progress) : Type 0 where
-  pub fits : b .made < entries-in (length lg)
-  pub more : b .made < b′ .made
-
-abbrev pub made-of : Took → ℕ
-made-of (Took.word v (at rs lg rx b)) = b .made
-made-of (Took.failed e st) = 0
-made-of (Took.cut-short c st) = 0
-
-pub read-fell : {c : ℕ} {rs lg rx : List ℕ} {b : Progress} {rs′ lg′ rx′ : List ℕ} {r : Checked} {v : ℕ} {b′ : Progress}
-    → ReadsFrom c (at rs lg rx b) rs′ lg′ rx′ r → r ≡ Checked.Word v b′ → Fell lg b b′
-unfolding read read-one recorded room
-read-fell {c} {rs} {lg} {rx} {b} {rs′} {lg′} {rx′} {r} {v} {b′} x e =
-    go (left (at rs lg rx b)) (room (at rs lg rx b)) refl (ap (checked rs′ lg′ rx′) (sym e) ∙ x .is)
-  where
-    go : (ws : List ℕ) (n : ℕ) → room (at rs lg rx b) ≡ n → Took.word v (at rs′ lg′ rx′ b′) ≡ read-one c (at rs lg rx b) ws n → Fell lg b b′
-    go ws zero h k = let z : _≡_ {A = ℕ} 0 1 = cc in absurd (omega arith)
-    go [] (suc n) h k = let z : _≡_ {A = ℕ} 0 1 = cc in absurd (omega arith)
-    go (w ∷ ws) (suc n) h k = record { fits = omega arith; more = omega (arith, ap made-of k) }
+-- a word read leaves less room
+pub read-less : {c : ℕ} {st : State} {rs lg rx : List ℕ} {r : Taken} {v : ℕ} {b : Progress}
+    → ReadsFrom c st rs lg rx r → r ≡ Taken.Word v b → room (at rs lg rx b) < room st
+read-less {c} {st} {rs} {lg} {rx} x e = read-room c st (ap (taken rs lg rx) (sym e) ∙ x .is)
 
 abbrev value-of : Took → ℕ
 value-of (Took.word v st) = v
-value-of (Took.failed e st) = 0
 value-of (Took.cut-short c st) = 0
 
 -- a register word is 16 bits wide
-pub read-small : {c : ℕ} {st : State} {rs lg rx : List ℕ} {r : Checked} {v : ℕ} {b : Progress}
-    → ReadsFrom c st rs lg rx r → eqb c CYC ≡ false → r ≡ Checked.Word v b → v < 65536
+pub read-small : {c : ℕ} {st : State} {rs lg rx : List ℕ} {r : Taken} {v : ℕ} {b : Progress}
+    → ReadsFrom c st rs lg rx r → eqb c CYC ≡ false → r ≡ Taken.Word v b → v < 65536
 unfolding read read-one cut
-read-small {c} {st} {rs} {lg} {rx} {r} {v} {b} x t e = go (left st) (room st) (ap (checked rs lg rx) (sym e) ∙ x .is)
+read-small {c} {st} {rs} {lg} {rx} {r} {v} {b} x t e = go (left st) (room st) (ap (taken rs lg rx) (sym e) ∙ x .is)
   where
     go : (ws : List ℕ) (n : ℕ) → Took.word v (at rs lg rx b) ≡ read-one c st ws n → v < 65536
     go ws zero k = let z : _≡_ {A = ℕ} 0 1 = cc in absurd (omega arith)
@@ -160,7 +128,6 @@ read-small {c} {st} {rs} {lg} {rx} {r} {v} {b} x t e = go (left st) (room st) (a
 
 abbrev progress-of : Took → Progress → Progress
 progress-of (Took.word v (at rs lg rx b)) d = b
-progress-of (Took.failed e st) d = d
 progress-of (Took.cut-short c st) d = d
 
 -- a read uses a reading that is there, and receives no byte by itself
@@ -169,11 +136,11 @@ pub record Counted (rs : List ℕ) (b b′ : Progress) : Type 0 where
   pub used : b′ .used ≡ b .used + 1
   pub got : b′ .got ≡ b .got
 
-pub read-counts : {c : ℕ} {rs lg rx : List ℕ} {b : Progress} {rs′ lg′ rx′ : List ℕ} {r : Checked} {v : ℕ} {b′ : Progress}
-    → ReadsFrom c (at rs lg rx b) rs′ lg′ rx′ r → is-read c ≡ true → r ≡ Checked.Word v b′ → Counted rs b b′
+pub read-counts : {c : ℕ} {rs lg rx : List ℕ} {b : Progress} {rs′ lg′ rx′ : List ℕ} {r : Taken} {v : ℕ} {b′ : Progress}
+    → ReadsFrom c (at rs lg rx b) rs′ lg′ rx′ r → is-read c ≡ true → r ≡ Taken.Word v b′ → Counted rs b b′
 unfolding read read-one recorded left
 read-counts {c} {rs} {lg} {rx} {b} {rs′} {lg′} {rx′} {r} {v} {b′} x t e =
-    go (left (at rs lg rx b)) (room (at rs lg rx b)) refl (ap (checked rs′ lg′ rx′) (sym e) ∙ x .is)
+    go (left (at rs lg rx b)) (room (at rs lg rx b)) refl (ap (taken rs′ lg′ rx′) (sym e) ∙ x .is)
   where
     go : (ws : List ℕ) (n : ℕ) → drop (b .used) rs ≡ ws → Took.word v (at rs′ lg′ rx′ b′) ≡ read-one c (at rs lg rx b) ws n → Counted rs b b′
     go ws zero l k = let z : _≡_ {A = ℕ} 0 1 = cc in absurd (omega arith)

@@ -113,4 +113,4 @@ number (failed BusError.Bus) = 6
 number (failed BusError.Crc) = 7
 number (failed BusError.ArbitrationLoss) = 8
 number (cut-short Cut.NoReadings) = 9
-number (cut-short Cut.NoRecord) = 10
+number (cut-short (Cut.NoRecord w)) = 10

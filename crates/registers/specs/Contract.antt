@@ -9,10 +9,11 @@ use Rattle.registers.specs.declared.Source.{Source}
 use Rattle.registers.specs.declared.BusError.{BusError}
 use Rattle.registers.specs.declared.Progress.{Progress}
 use Rattle.registers.specs.declared.Outcome.{Outcome}
+use Rattle.registers.specs.declared.Taken.{Taken}
 use Rattle.registers.specs.declared.Checked.{Checked}
 use Rattle.registers.specs.Access.{Ending}
 use Rattle.registers.specs.Machine.{Step, Handler, handle}
-use Rattle.registers.specs.State.{State, at, After, Took, then, resume, read, write, check}
+use Rattle.registers.specs.State.{State, at, After, Took, Found, then, resume, read, write, check}
 
 -- an outcome with the buffers that it leaves
 abbrev pub outcome : List ℕ → List ℕ → List ℕ → Outcome → After
@@ -20,16 +21,30 @@ outcome rs lg rx (Outcome.Well b) = After.going (at rs lg rx b)
 outcome rs lg rx (Outcome.Failed e b) = After.failed e (at rs lg rx b)
 outcome rs lg rx (Outcome.CutShort c b) = After.cut-short c (at rs lg rx b)
 
-abbrev pub checked : List ℕ → List ℕ → List ℕ → Checked → Took
-checked rs lg rx (Checked.Word v b) = Took.word v (at rs lg rx b)
-checked rs lg rx (Checked.Failed e b) = Took.failed e (at rs lg rx b)
-checked rs lg rx (Checked.CutShort c b) = Took.cut-short c (at rs lg rx b)
+-- the same of a read, and of a check
+abbrev pub taken : List ℕ → List ℕ → List ℕ → Taken → Took
+taken rs lg rx (Taken.Word v b) = Took.word v (at rs lg rx b)
+taken rs lg rx (Taken.CutShort c b) = Took.cut-short c (at rs lg rx b)
 
--- a read or a check as an outcome: the word plays no part
-abbrev pub outcome-of : Checked → Outcome
-outcome-of (Checked.Word v b) = Outcome.Well b
-outcome-of (Checked.Failed e b) = Outcome.Failed e b
-outcome-of (Checked.CutShort c b) = Outcome.CutShort c b
+abbrev pub checked : List ℕ → List ℕ → List ℕ → Checked → Found
+checked rs lg rx (Checked.Word v b) = Found.word v (at rs lg rx b)
+checked rs lg rx (Checked.Failed e b) = Found.failed e (at rs lg rx b)
+checked rs lg rx (Checked.CutShort c b) = Found.cut-short c (at rs lg rx b)
+
+-- a read as an outcome, where the word plays no part, and as the answer of a check without an error
+abbrev pub outcome-of : Taken → Outcome
+outcome-of (Taken.Word v b) = Outcome.Well b
+outcome-of (Taken.CutShort c b) = Outcome.CutShort c b
+
+abbrev pub checked-of : Taken → Checked
+checked-of (Taken.Word v b) = Checked.Word v b
+checked-of (Taken.CutShort c b) = Checked.CutShort c b
+
+-- a check as an outcome: the word plays no part
+abbrev pub check-outcome : Checked → Outcome
+check-outcome (Checked.Word v b) = Outcome.Well b
+check-outcome (Checked.Failed e b) = Outcome.Failed e b
+check-outcome (Checked.CutShort c b) = Outcome.CutShort c b
 
 -- the answer of a check once the flag it found is cleared: its error, or its word
 abbrev pub failed-of : Outcome → BusError → Checked
@@ -49,8 +64,8 @@ ending-of (Outcome.Failed e b) = Ending.failed e
 ending-of (Outcome.CutShort c b) = Ending.cut-short c
 
 -- one read of the register c from st answers r, and leaves these readings, this record and these received bytes
-pub record ReadsFrom (c : ℕ) (st : State) (rs lg rx : List ℕ) (r : Checked) : Type 0 where
-  pub is : checked rs lg rx r ≡ read c st
+pub record ReadsFrom (c : ℕ) (st : State) (rs lg rx : List ℕ) (r : Taken) : Type 0 where
+  pub is : taken rs lg rx r ≡ read c st
 
 -- one write of v to the register c
 pub record WritesFrom (c v : ℕ) (st : State) (rs lg rx : List ℕ) (o : Outcome) : Type 0 where
@@ -83,7 +98,7 @@ abbrev pub Slice : Type 0
 Slice = Both (RefT (List ℕ)) (RefT (List ℕ))
 
 -- one read of the register c, whatever is received
-abbrev pub Reads : ℕ → (readings log : Slice) → Progress → Checked → Type 0
+abbrev pub Reads : ℕ → (readings log : Slice) → Progress → Taken → Type 0
 Reads c readings log b r = (rx : List ℕ) → ReadsFrom c (at (now (readings .entry)) (now (log .entry)) rx b) (now (readings .entry)) (now (log .exit)) rx r
 
 -- one write of v to the register c, whatever the readings

@@ -6,6 +6,7 @@ use lib.ListN.{length, set, drop}
 use Rattle.units.specs.declared.Setup.{Setup}
 use Rattle.registers.specs.declared.Source.{Source}
 use Rattle.registers.specs.declared.BusError.{BusError}
+use Rattle.registers.specs.declared.Wanted.{Wanted}
 use Rattle.registers.specs.declared.Cut.{Cut}
 use Rattle.registers.specs.declared.Entry.{Entry}
 use Rattle.registers.specs.declared.Progress.{Progress}
@@ -66,20 +67,18 @@ after (Ending.cut-short c) st = cut-short c st
 unfoldable pub resume : Setup → List Step → State → After
 resume s p st = let r = exec s (room st) p (left st) in after (r .ending) (replay (r .log) st)
 
--- what a read or a check comes to
+-- what a read comes to
 pub data Took : Type 0 where
   word : ℕ → State → Took
-  failed : BusError → State → Took
   cut-short : Cut → State → Took
 
 abbrev pub taking : Took → (ℕ → State → After) → After
 taking (word v st) k = k v st
-taking (failed e st) k = failed e st
 taking (cut-short c st) k = cut-short c st
 
 -- one read
 unfoldable pub read-one : ℕ → State → List ℕ → ℕ → Took
-read-one c st rs zero = cut-short Cut.NoRecord st
+read-one c st rs zero = cut-short (Cut.NoRecord (Wanted.Read c)) st
 read-one c st [] (suc n) = cut-short Cut.NoReadings st
 read-one c st (v ∷ rs) (suc n) = word (cut c v) (recorded (entry c (cut c v)) st)
 
@@ -88,27 +87,37 @@ read c st = read-one c st (left st) (room st)
 
 -- one write
 unfoldable pub write-one : ℕ → ℕ → State → ℕ → After
-write-one c v st zero = cut-short Cut.NoRecord st
+write-one c v st zero = cut-short (Cut.NoRecord (Wanted.Write c v)) st
 write-one c v st (suc n) = going (recorded (entry c v) st)
 
 unfoldable pub write : ℕ → ℕ → State → After
 write c v st = write-one c v st (room st)
 
+-- what a check comes to
+pub data Found : Type 0 where
+  word : ℕ → State → Found
+  failed : BusError → State → Found
+  cut-short : Cut → State → Found
+
+abbrev pub finding : Found → (ℕ → State → After) → After
+finding (word v st) k = k v st
+finding (failed e st) k = failed e st
+finding (cut-short c st) k = cut-short c st
+
 -- one check: SR1 read, and the flag that it finds cleared
-abbrev pub took-then : After → (State → Took) → Took
-took-then (going st) k = k st
-took-then (failed e st) k = Took.failed e st
-took-then (cut-short c st) k = Took.cut-short c st
+abbrev pub found-then : After → (State → Found) → Found
+found-then (going st) k = k st
+found-then (failed e st) k = Found.failed e st
+found-then (cut-short c st) k = Found.cut-short c st
 
-abbrev pub took-word : Took → (ℕ → State → Took) → Took
-took-word (word v st) k = k v st
-took-word (failed e st) k = Took.failed e st
-took-word (cut-short c st) k = Took.cut-short c st
+abbrev pub found-word : Took → (ℕ → State → Found) → Found
+found-word (word v st) k = k v st
+found-word (cut-short c st) k = Found.cut-short c st
 
-abbrev pub check-flags : Flagged → Bool → ℕ → State → Took
-check-flags (Flagged.Error e) berr v st = took-then (write wSR1 (clear-word e) st) (λ st′. Took.failed e st′)
-check-flags Flagged.Nothing true v st = took-then (write wSR1 (clear-word BusError.Bus) st) (λ st′. Took.word v st′)
-check-flags Flagged.Nothing false v st = Took.word v st
+abbrev pub check-flags : Flagged → Bool → ℕ → State → Found
+check-flags (Flagged.Error e) berr v st = found-then (write wSR1 (clear-word e) st) (λ st′. Found.failed e st′)
+check-flags Flagged.Nothing true v st = found-then (write wSR1 (clear-word BusError.Bus) st) (λ st′. Found.word v st′)
+check-flags Flagged.Nothing false v st = Found.word v st
 
-unfoldable pub check : Source → State → Took
-check n st = took-word (read SR1 st) (λ v st′. check-flags (check-word n v) (has BERR v) v st′)
+unfoldable pub check : Source → State → Found
+check n st = found-word (read SR1 st) (λ v st′. check-flags (check-word n v) (has BERR v) v st′)

@@ -9,7 +9,7 @@ ghost use Rattle.registers.specs.Word.{has, with-bit, without-bit, with-
 ghost use lib.Dec.{leb};
 ghost use Rattle.registers.specs.Access.{DR, wSR1, is-read, is-data, entries-in, store, clear-word, number, failed};
 ghost use Rattle.registers.specs.Machine.{Step};
-ghost use Rattle.registers.specs.Contract.{outcome-of, failed-of, word-of, ending-of, Reads, Writes, Does, Receives};
+ghost use Rattle.registers.specs.Contract.{outcome-of, checked-of, check-outcome, failed-of, word-of, ending-of, Reads, Writes, Does, Receives};
 
 // Codes of the record: reads.
 pub const SR1: u32 = 1;
@@ -90,10 +90,16 @@ pub enum BusError {
     ArbitrationLoss,
 }
 
-// Why a run was cut short: every reading is used, or too few record words remain.
+// An access that is wanted: a read of a register, or a write of a value to one.
+pub enum Wanted {
+    Read(u32),
+    Write(u32, u32),
+}
+
+// Why a run was cut short: every reading is used, or too few record words remain for this access.
 pub enum Cut {
     NoReadings,
-    NoRecord,
+    NoRecord(Wanted),
 }
 
 // How far a run has come: readings used, accesses made, bytes received.
@@ -110,7 +116,13 @@ pub enum Outcome {
     CutShort(Cut, Progress),
 }
 
-// What a read or a check of SR1 answers: the word, or why there is none.
+// What a read answers: the word, or why the run was cut short.
+pub enum Taken {
+    Word(u32, Progress),
+    CutShort(Cut, Progress),
+}
+
+// What a check of SR1 answers: the word, its error, or why the run was cut short.
 pub enum Checked {
     Word(u32, Progress),
     Failed(BusError, Progress),
@@ -131,6 +143,9 @@ pub enum Awaited {
 
 // Up to two bits of a word, by weight; 0 is no bit.
 pub struct Bits(pub u32, pub u32);
+
+// The words of a record entry.
+pub const ENTRY_WORDS: usize = 2;
 
 // A record entry.
 pub struct Entry {
@@ -186,7 +201,7 @@ fn altered(word: u32, on: Bits, off: Bits) -> u32
 fn full(log: &[u32], progress: Progress) -> bool
     ensures { λ r. ⌜ r ≡ leb (entries-in (length (now (log .entry)))) (progress .made) ⌝ }
 {
-    log.len() / 2 <= progress.made
+    log.len() / ENTRY_WORDS <= progress.made
 }
 
 // Entry number k of the record.
@@ -194,29 +209,29 @@ fn put_entry(log: &mut [u32], k: usize, entry: Entry)
     requires { ⌜ k < entries-in (length (now log)) ⌝ }
     ensures { λ _. ⌜ now (log .exit) ≡ store (now (log .entry)) k entry ⌝ }
 {
-    log[2 * k] = entry.code;
-    log[2 * k + 1] = entry.value;
+    log[ENTRY_WORDS * k] = entry.code;
+    log[ENTRY_WORDS * k + 1] = entry.value;
 }
 
 // One read: the next reading, cut to its register and recorded. Record space is tested before readings.
-pub fn read(readings: &[u32], log: &mut [u32], progress: Progress, code: u32) -> Checked
+pub fn read(readings: &[u32], log: &mut [u32], progress: Progress, code: u32) -> Taken
     requires { ⌜ is-read code ≡ true ⌝ }
     ensures { λ r. ⌜ Reads code readings log progress r ⌝ }
 {
     if full(log, progress) {
-        return Checked::CutShort(Cut::NoRecord, progress);
+        return Taken::CutShort(Cut::NoRecord(Wanted::Read(code)), progress);
     }
     let made = progress.made;
     let used = progress.used;
     if readings.len() <= used {
-        return Checked::CutShort(Cut::NoReadings, progress);
+        return Taken::CutShort(Cut::NoReadings, progress);
     }
     let mut value = readings[used];
     if code != CYC {
         value = value % 65536;
     }
     put_entry(log, made, Entry { code, value });
-    Checked::Word(
+    Taken::Word(
         value,
         Progress {
             used: used + 1,
@@ -232,7 +247,7 @@ pub fn write(log: &mut [u32], progress: Progress, code: u32, value: u32) -> Outc
     ensures { λ r. ⌜ Writes code value log progress r ⌝ }
 {
     if full(log, progress) {
-        return Outcome::CutShort(Cut::NoRecord, progress);
+        return Outcome::CutShort(Cut::NoRecord(Wanted::Write(code, value)), progress);
     }
     let made = progress.made;
     put_entry(log, made, Entry { code, value });
@@ -243,9 +258,29 @@ pub fn write(log: &mut [u32], progress: Progress, code: u32, value: u32) -> Outc
     })
 }
 
-// A read or a check for its own sake: the word plays no part.
-pub fn outcome_of(c: Checked) -> Outcome
-    ensures { λ r. ⌜ r ≡ outcome-of c ⌝ }
+// A read for its own sake: the word plays no part.
+pub fn outcome_of(t: Taken) -> Outcome
+    ensures { λ r. ⌜ r ≡ outcome-of t ⌝ }
+{
+    match t {
+        Taken::Word(_, progress) => Outcome::Well(progress),
+        Taken::CutShort(cut, progress) => Outcome::CutShort(cut, progress),
+    }
+}
+
+// The answer of a check whose word has no error flag, and of one without a word.
+pub fn checked_of(t: Taken) -> Checked
+    ensures { λ r. ⌜ r ≡ checked-of t ⌝ }
+{
+    match t {
+        Taken::Word(word, progress) => Checked::Word(word, progress),
+        Taken::CutShort(cut, progress) => Checked::CutShort(cut, progress),
+    }
+}
+
+// A check for its own sake: the word plays no part.
+pub fn check_outcome(c: Checked) -> Outcome
+    ensures { λ r. ⌜ r ≡ check-outcome c ⌝ }
 {
     match c {
         Checked::Word(_, progress) => Outcome::Well(progress),
@@ -289,9 +324,9 @@ pub fn read_data(readings: &[u32], log: &mut [u32], rx: &mut [u8], progress: Pro
     requires { ⌜ progress .got ≤ progress .used ⌝ }
     ensures { λ r. ⌜ ((s : Setup) → Receives s (Step.get DR ∷ []) readings log rx progress r) ⌝ }
 {
-    let c = read(readings, log, progress, DR);
-    let Checked::Word(word, next) = c else {
-        return outcome_of(c);
+    let t = read(readings, log, progress, DR);
+    let Taken::Word(word, next) = t else {
+        return outcome_of(t);
     };
     let got = next.got;
     if got < rx.len() {
@@ -315,9 +350,9 @@ pub fn modify_cr1(
     requires { ⌜ (on .0 < 65536) × (on .1 < 65536) ⌝ }
     ensures { λ r. ⌜ Does (Step.modify on off ∷ []) readings log progress r ⌝ }
 {
-    let c = read(readings, log, progress, CR1);
-    let Checked::Word(word, next) = c else {
-        return outcome_of(c);
+    let t = read(readings, log, progress, CR1);
+    let Taken::Word(word, next) = t else {
+        return outcome_of(t);
     };
     write(log, next, W_CR1, altered(word, on, off))
 }
@@ -345,7 +380,7 @@ pub fn number(outcome: Outcome) -> u32
         Outcome::Failed(error, _) => error_number(error),
         Outcome::CutShort(cut, _) => match cut {
             Cut::NoReadings => 9,
-            Cut::NoRecord => 10,
+            Cut::NoRecord(_) => 10,
         },
     }
 }

@@ -14,6 +14,7 @@ use buffers::to_words;
 use buffers::word_at;
 use engine::Counts;
 use libc::STDOUT_FILENO;
+use registers::ENTRY_WORDS;
 ghost use Prim.Native.Nat.{_≤_};
 
 // The received buffer's bytes and the record's words, from which each case takes as many as it says.
@@ -116,11 +117,18 @@ fn record_from(case: Case) -> usize
     in_words(case.list) + case.readings as usize
 }
 
+// The words of the case's record.
+fn record_words(case: Case) -> usize
+    ensures { λ r. ⌜ r ≤ 17179869184 ⌝ }
+{
+    ENTRY_WORDS * (case.made as usize)
+}
+
 // Where the case's received bytes start.
 fn received_from(case: Case) -> usize
     ensures { λ r. ⌜ r ≤ 34359738368 ⌝ }
 {
-    record_from(case) + 2 * (case.made as usize)
+    record_from(case) + record_words(case)
 }
 
 // Whether the run's buffers are long enough for the case.
@@ -255,7 +263,7 @@ fn compare(body: &[u8], case: Case, rx: &[u8], log: &[u32], c: Counts) -> Differ
     if !same_counts(case, c) {
         return Difference::Counts;
     }
-    let made = 2 * (case.made as usize);
+    let made = record_words(case);
     let record = part(body, record_from(case), made);
     if !same_words(record, first_words(log, made)) {
         return Difference::Record;

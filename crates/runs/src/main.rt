@@ -16,7 +16,10 @@
 // are hexadecimal with as many digits as are printed, and a case has at most one line each of g and c.
 //
 //   awk 'BEGIN{split("r sr1,r sr2,r cr1,r dr,r cyc,,,,,,w cr1,w cr2,w ccr,w trise,w sr1,w dr",R,",")}function t(x){print "  document " x ", run " x}{sub(/ *#.*/,"")}$1=="="{print $2 ":";x="";n++}$1=="a"{for(i=2;i<NF;i+=2)t(R[$i] " " substr($(i+1),3))}$1=="g"{x="rx";for(i=2;i<=NF;i++)x=x " " substr($i,3)}$1=="c"{$1="end";c=$0}$1=="!"{if(x!="")t(x);t(c);print "  agrees"}END{print n " cases, 0 differ"}' stdin > stdout
+use buffers::entries_in;
+use buffers::entry_at;
 use buffers::first_bytes;
+use buffers::first_entries;
 use buffers::first_words;
 use buffers::run_on;
 use cases::byte;
@@ -109,14 +112,6 @@ fn put(
     after
 }
 
-// The words of the first `made` accesses of a record.
-fn made_words(log: &[u32], made: usize) -> &[u32] {
-    if made <= log.len() / 2 {
-        return &log[..2 * made];
-    }
-    log
-}
-
 // The word at `at`, 0 past the end.
 fn word_at(words: &[u32], at: usize) -> u32 {
     if at < words.len() { words[at] } else { 0 }
@@ -184,7 +179,7 @@ fn agrees(
     rx: &[u8],
     c: Counts,
 ) -> bool {
-    let made = made_words(log, c.made);
+    let made = first_entries(log, c.made);
     same_words(accesses, made)
         && same_bytes(bytes, first_bytes(rx, c.got))
         && same_end(counts, c)
@@ -198,8 +193,8 @@ fn print(text: &[u8]) {
 
 // Access number `k`, a mark where there is none.
 fn print_access(words: &[u32], k: usize) {
-    if k < words.len() / 2 {
-        show::access(words[2 * k], words[2 * k + 1]);
+    if k < entries_in(words) {
+        show::access(entry_at(words, k));
     } else {
         print(b"-");
     }
@@ -219,7 +214,7 @@ fn most(a: usize, b: usize) -> usize {
 }
 
 fn print_pairs(accesses: &[u32], made: &[u32]) {
-    for k in 0..most(accesses.len(), made.len()) / 2 {
+    for k in 0..most(entries_in(accesses), entries_in(made)) {
         print_pair(accesses, made, k);
     }
 }
@@ -285,7 +280,7 @@ fn run(
     let counts = first_words(counts, s.counts);
     print_name(text, s.name_from, s.name_to);
     print(b":\n");
-    print_pairs(accesses, made_words(&log, c.made));
+    print_pairs(accesses, first_entries(&log, c.made));
     print_received(bytes, first_bytes(&rx, c.got));
     print_end(counts, c);
     counted(s, agrees(accesses, bytes, counts, &log, &rx, c))

@@ -1,6 +1,7 @@
 // A run as text on standard output, written field by field: no line is put together first. Each function answers
 // whether all of it was written, and stops at the first field that was not.
 use libc::STDOUT_FILENO;
+use registers::Entry;
 
 fn field(text: &[u8]) -> bool {
     io::write_all(STDOUT_FILENO, text)
@@ -42,12 +43,12 @@ fn digits(code: u32) -> usize {
 }
 
 // One access, without its line end.
-pub fn access(code: u32, value: u32) -> bool {
-    direction(code)
+pub fn access(entry: Entry) -> bool {
+    direction(entry.code)
         && space()
-        && register(code)
+        && register(entry.code)
         && space()
-        && io::print_hex(STDOUT_FILENO, value as u64, digits(code))
+        && io::print_hex(STDOUT_FILENO, entry.value as u64, digits(entry.code))
 }
 
 // The received bytes, without the line end.

@@ -1,6 +1,6 @@
 -- Timed waits: what a poll and a CYC read make of the step, and how a wait ends.
 -- Assumes nothing.
-use Prim.Native.Nat.{ℕ, zero, suc, _+_, _%_, _^_, _<_}
+use Prim.Native.Nat.{ℕ, _+_, _%_, _^_, _<_}
 use native.Mathlib.Omega.{arith}
 use mathlib.Core.Bool.{Bool, true, false, cond, _&&_}
 use mathlib.Core.Path.{_≡_, refl, _∙_}
@@ -10,34 +10,17 @@ use Rattle.units.specs.declared.Setup.{Setup}
 use Rattle.registers.specs.declared.Awaited.{Awaited}
 use Rattle.registers.specs.declared.Progress.{Progress}
 use Rattle.registers.specs.declared.BusError.{BusError}
-use Rattle.registers.specs.declared.Checked.{Checked}
+use Rattle.registers.specs.declared.Cut.{Cut}
+use Rattle.registers.specs.declared.Taken.{Taken}
 use Rattle.registers.specs.declared.Flagged.{Flagged}
 use Rattle.registers.specs.declared.Outcome.{Outcome}
 use Rattle.registers.specs.Access.{CYC, wSR1, is-read, is-data, clear-word}
 use Rattle.registers.specs.Machine.{Step, Handler, Access, access, next, handle, clear, since, polled-register, poll-error, poll-ready, after-poll}
-use Rattle.registers.specs.State.{State, After, Took, at, then, room, left, resume, read-one, read, write-one, write}
-use Rattle.registers.specs.Contract.{outcome, checked, outcome-of, handled, ReadsFrom, WritesFrom, Reaches, WaitsFrom}
-use Rattle.registers.proofs.Laws.{write-law}
-use Rattle.registers.proofs.Steps.{NoWord, here, rewritten, read-step, read-stops, waits-well, waits-last}
+use Rattle.registers.specs.State.{State, at, then, resume, read, write}
+use Rattle.registers.specs.Contract.{outcome, outcome-of, handled, ReadsFrom, WritesFrom, Reaches, WaitsFrom}
+use Rattle.registers.proofs.Laws.{write-law, write-unfailed}
+use Rattle.registers.proofs.Steps.{here, rewritten, read-step, read-stops, waits-well, waits-last}
 use Rattle.timed.specs.Poll.{no-error, over, failed-poll}
-
--- a read and a write meet no bus error
-read-unfailed : (c : ℕ) (st : State) {e : BusError} {st′ : State} → Took.failed e st′ ≡ read c st → ⊥
-unfolding read read-one
-read-unfailed c st {e} {st′} = go (left st) (room st)
-  where
-    go : (ws : List ℕ) (n : ℕ) → Took.failed e st′ ≡ read-one c st ws n → ⊥
-    go ws zero k = let z : _≡_ {A = ℕ} 0 1 = cc in omega arith
-    go [] (suc n) k = let z : _≡_ {A = ℕ} 0 1 = cc in omega arith
-    go (w ∷ ws) (suc n) k = let z : _≡_ {A = ℕ} 0 1 = cc in omega arith
-
-write-unfailed : (c v : ℕ) (st : State) {e : BusError} {st′ : State} → After.failed e st′ ≡ write c v st → ⊥
-unfolding write write-one
-write-unfailed c v st {e} {st′} = go (room st)
-  where
-    go : (n : ℕ) → After.failed e st′ ≡ write-one c v st n → ⊥
-    go zero k = let z : _≡_ {A = ℕ} 0 1 = cc in omega arith
-    go (suc n) k = let z : _≡_ {A = ℕ} 0 1 = cc in omega arith
 
 -- what the value read makes of each step of a timed wait
 module _ (s : Setup) (w : Awaited) (l : ℕ) (h : Handler) where
@@ -101,34 +84,30 @@ wait-failed {s} {h} {q} {st} w l t v {rs} {lg} {rx} {b} g {a} n {lg′} {o} y =
 
 -- a poll's read
 pub poll-step : {s : Setup} {q : List Step} {st : State} {w : Awaited} {l : ℕ} {h : Handler} {t : ℕ} {st₁ : State} → Reaches s q st (Step.poll w l h t ∷ []) st₁
-    → {rs lg rx : List ℕ} {r : Checked} → ReadsFrom (polled-register w) st₁ rs lg rx r → {v : ℕ} {b : Progress} → r ≡ Checked.Word v b
+    → {rs lg rx : List ℕ} {r : Taken} → ReadsFrom (polled-register w) st₁ rs lg rx r → {v : ℕ} {b : Progress} → r ≡ Taken.Word v b
     → Reaches s q st (next s (Step.poll w l h t) v) (at rs lg rx b)
 poll-step {w = w} g x e = rewritten (append-nil _) (read-step g x refl (polled-read w) (polled-other w) e refl)
 
 -- a wait ends where a read has no word, and by its handler's steps
 pub wait-none : {s : Setup} {h : Handler} {q : List Step} {st : State} {i : Step} {q₁ : List Step} {st₁ : State} → Reaches s q st (i ∷ q₁) st₁
-    → {c : ℕ} {rs lg rx : List ℕ} {r : Checked} → ReadsFrom c st₁ rs lg rx r → access i ≡ Access.read c → is-read c ≡ true → NoWord r → WaitsFrom s h q st rs lg rx (outcome-of r)
-wait-none {s} {h} {st₁ = st₁} g {c} {rs} {lg} {rx} {r} x a t n = record { is = λ p. read-stops g x a t n .is p ∙ go p r (x .is) }
-  where
-    go : (p : List Step) (r : Checked) → checked rs lg rx r ≡ read c st₁ → then (outcome rs lg rx (outcome-of r)) (resume s p) ≡ handled s h rs lg rx (outcome-of r) p
-    go p (Checked.Word v b) y = refl
-    go p (Checked.Failed e b) y = absurd (read-unfailed c st₁ y)
-    go p (Checked.CutShort k b) y = refl
+    → {c : ℕ} {rs lg rx : List ℕ} {r : Taken} → ReadsFrom c st₁ rs lg rx r → access i ≡ Access.read c → is-read c ≡ true
+    → {k : Cut} {b : Progress} → r ≡ Taken.CutShort k b → WaitsFrom s h q st rs lg rx (outcome-of r)
+wait-none g x a t e = record { is = λ p. read-stops g x a t e .is p ∙ rw e }
 
 pub ends-handled : {s : Setup} {h : Handler} {q : List Step} {st : State} {rs lg rx : List ℕ} {e : BusError} {b : Progress}
     → Reaches s q st (handle s h e ++ []) (at rs lg rx b) → WaitsFrom s h q st rs lg rx (Outcome.Failed e b)
 ends-handled g = record { is = λ p. g .is p ∙ rw append-nil }
 
 -- a wait by its first CYC read and its first poll: no word; over at once; or the rest of it
-module _ {s : Setup} {w : Awaited} {l : ℕ} {h : Handler} {st : State} {rs lg rx : List ℕ} {r : Checked} (x : ReadsFrom CYC st rs lg rx r) {t : ℕ} {b : Progress} (e : r ≡ Checked.Word t b)
-    {lg′ : List ℕ} {r′ : Checked} (y : ReadsFrom (polled-register w) (at rs lg rx b) rs lg′ rx r′) where
+module _ {s : Setup} {w : Awaited} {l : ℕ} {h : Handler} {st : State} {rs lg rx : List ℕ} {r : Taken} (x : ReadsFrom CYC st rs lg rx r) {t : ℕ} {b : Progress} (e : r ≡ Taken.Word t b)
+    {lg′ : List ℕ} {r′ : Taken} (y : ReadsFrom (polled-register w) (at rs lg rx b) rs lg′ rx r′) where
   first-poll : Reaches s (Step.timed w l h ∷ []) st (Step.poll w l h t ∷ []) (at rs lg rx b)
   first-poll = read-step here x refl refl refl e (next-timed s w l h t)
 
-  pub wait-unread : NoWord r′ → WaitsFrom s h (Step.timed w l h ∷ []) st rs lg′ rx (outcome-of r′)
+  pub wait-unread : {k : Cut} {b′ : Progress} → r′ ≡ Taken.CutShort k b′ → WaitsFrom s h (Step.timed w l h ∷ []) st rs lg′ rx (outcome-of r′)
   wait-unread n = wait-none first-poll y refl (polled-read w) n
 
-  module _ {v : ℕ} {b′ : Progress} (f : r′ ≡ Checked.Word v b′) where
+  module _ {v : ℕ} {b′ : Progress} (f : r′ ≡ Taken.Word v b′) where
     pub wait-at-once : over w v ≡ true → WaitsFrom s h (Step.timed w l h ∷ []) st rs lg′ rx (Outcome.Well b′)
     wait-at-once o = waits-well (rewritten (next-over s w l h t v o) (poll-step first-poll y f))
 

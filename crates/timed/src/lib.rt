@@ -1,11 +1,11 @@
 // Timed waits, named as the macros of the Rust's src/i2c/blocking.rs: one poll, and polls until the time is out.
 use registers::Awaited;
 use registers::BusError;
-use registers::Checked;
 use registers::Flagged;
 use registers::Outcome;
 use registers::Progress;
 use registers::Source;
+use registers::Taken;
 use registers::clear_flag;
 use registers::has;
 use registers::outcome_of;
@@ -129,14 +129,14 @@ fn busy_wait(
             return failed_poll(clear_flag(log, progress, error), error);
         }
         let c = read(readings, log, progress, registers::CYC);
-        let Checked::Word(cycles, later) = c else {
+        let Taken::Word(cycles, later) = c else {
             return outcome_of(c);
         };
         if timed_out(start, cycles, limit) {
             return Outcome::Failed(BusError::Timeout, later);
         }
         let d = read(readings, log, later, polled_register(awaited));
-        let Checked::Word(again, next) = d else {
+        let Taken::Word(again, next) = d else {
             return outcome_of(d);
         };
         progress = next;
@@ -158,11 +158,11 @@ pub fn busy_wait_flag(
     ensures { λ r. ⌜ ((s : Setup) (h : Handler) → Waits s h (Step.timed (Awaited.Flag flag source) (limit .0) h ∷ []) readings log progress r) ⌝ }
 {
     let c = read(readings, log, progress, registers::CYC);
-    let Checked::Word(start, progress1) = c else {
+    let Taken::Word(start, progress1) = c else {
         return outcome_of(c);
     };
     let d = read(readings, log, progress1, registers::SR1);
-    let Checked::Word(sr1, progress2) = d else {
+    let Taken::Word(sr1, progress2) = d else {
         return outcome_of(d);
     };
     if wait_for_flag(sr1, flag) {
@@ -189,11 +189,11 @@ pub fn busy_wait_stop(
     ensures { λ r. ⌜ ((s : Setup) (h : Handler) → Waits s h (Step.timed Awaited.Stop (limit .0) h ∷ []) readings log progress r) ⌝ }
 {
     let c = read(readings, log, progress, registers::CYC);
-    let Checked::Word(start, progress1) = c else {
+    let Taken::Word(start, progress1) = c else {
         return outcome_of(c);
     };
     let d = read(readings, log, progress1, registers::CR1);
-    let Checked::Word(cr1, progress2) = d else {
+    let Taken::Word(cr1, progress2) = d else {
         return outcome_of(d);
     };
     if wait_for_stop(cr1) {

@@ -1,7 +1,9 @@
 //! What several tests share. Each test file uses a part of it.
 #![allow(dead_code)]
 
-use vandhukril::{BusList, Cause, Counts, Error, Hertz, Micros, Mode, Refusal, Settings, run};
+use vandhukril::{
+    ACCESS_WORDS, BusList, Cause, Counts, Error, Hertz, Micros, Mode, Refusal, Settings, run,
+};
 
 /// What both buffers are full of before a run, to see what the run leaves as it was.
 pub const OLD_BYTE: u8 = 0xa5;
@@ -34,7 +36,7 @@ impl Ran {
     pub fn written(&self) -> (&[u32], &[u8]) {
         let counts = self.counts();
         (
-            &self.record[..2 * counts.accesses],
+            &self.record[..ACCESS_WORDS * counts.accesses],
             &self.received[..counts.received],
         )
     }
@@ -46,7 +48,7 @@ impl Ran {
         let (record, received) = self.written();
         let mut used = readings.iter();
         let mut bytes = received.iter();
-        for pair in record.chunks_exact(2) {
+        for pair in record.chunks_exact(ACCESS_WORDS) {
             if (1..=5).contains(&pair[0]) {
                 let reading = *used.next().expect("a reading for every read");
                 let value = if pair[0] == 5 {

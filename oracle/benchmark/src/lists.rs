@@ -1,6 +1,7 @@
 //! What is timed: lists whose every call ends well, and lists that are refused.
 
 use buslist::{List, Plan, PlannedCall, PlannedOperation, Settings, HEADER};
+use device::ENTRY_WORDS;
 
 /// Bytes of an operation.
 const LENGTH: usize = 16;
@@ -54,7 +55,7 @@ fn row(name: &'static str, kinds: &[u8], calls: usize) -> Row {
         list,
         readings,
         rx,
-        record: 2 * counts.made,
+        record: ENTRY_WORDS * counts.made,
     }
 }
 

@@ -1,7 +1,7 @@
 //! Damage: to the readings of a run, to its buffers, and to lists.
 
 use buslist::{limit, Plan, PlannedCall, PlannedOperation};
-use device::code;
+use device::{code, ENTRY_WORDS};
 
 use crate::{flag, Rng, START};
 
@@ -24,7 +24,7 @@ impl Status {
         let mut taken = 0;
         let mut starting = false;
         let mut addressed = false;
-        for entry in record.chunks_exact(2) {
+        for entry in record.chunks_exact(ENTRY_WORDS) {
             match entry[0] {
                 code::WRITE_CR1 => starting |= entry[1] & START != 0,
                 code::WRITE_DR => addressed = std::mem::take(&mut starting),

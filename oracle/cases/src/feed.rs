@@ -1,7 +1,7 @@
 //! The simulated device: it makes each reading as the Rust asks for it, and usually sets the awaited flag.
 
 use buslist::Settings;
-use device::code;
+use device::{code, ENTRY_WORDS};
 
 use crate::{flag, Rng, START, STOP};
 
@@ -87,7 +87,7 @@ impl<'a> Feed<'a> {
     }
 
     fn look(&mut self, record: &[u32]) {
-        for entry in record[self.seen..].chunks_exact(2) {
+        for entry in record[self.seen..].chunks_exact(ENTRY_WORDS) {
             match entry[0] {
                 code::WRITE_CR1 => {
                     self.cr1 = entry[1];

@@ -3,6 +3,7 @@
 use std::cell::RefCell;
 
 use buslist::{refusal, List};
+use device::ENTRY_WORDS;
 
 use crate::{damage, plans, Case, Feed, Rng, Style};
 
@@ -89,7 +90,7 @@ pub fn simulated(rng: &mut Rng, list: &List, style: Style, rx: usize) -> (Vec<u3
     });
     let record = RECORD.with_borrow_mut(|record| {
         let counts = original::simulate(list, made, &mut vec![0; rx], record);
-        record[..2 * counts.made].to_vec()
+        record[..ENTRY_WORDS * counts.made].to_vec()
     });
     (readings, record)
 }

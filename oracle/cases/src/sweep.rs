@@ -2,6 +2,7 @@
 //! alone and in pairs at every reading, and with received buffers of every small size.
 
 use buslist::{Plan, PlannedCall, PlannedOperation, Settings};
+use device::ENTRY_WORDS;
 
 use crate::{flag, judge, Case, STOP};
 
@@ -76,7 +77,7 @@ fn whole(plan: &Plan) -> Case {
     };
     let ran = judge(&case);
     case.readings.truncate(ran.counts[2] as usize);
-    case.record = 2 * ran.counts[3] as usize;
+    case.record = ENTRY_WORDS * ran.counts[3] as usize;
     case
 }
 

@@ -62,8 +62,10 @@ thread_local! {
     static FEED: RefCell<Option<Box<Feed<'static>>>> = const { RefCell::new(None) };
 }
 
-/// The bytes of one access in a record: a code and a value.
-const ENTRY_BYTES: usize = 8;
+/// The words of one access in a record: a code and a value.
+pub const ENTRY_WORDS: usize = 2;
+
+const ENTRY_BYTES: usize = ENTRY_WORDS * size_of::<u32>();
 
 impl Device {
     /// Without readings and without a record.
@@ -120,7 +122,7 @@ impl Device {
         unsafe {
             at.write(code);
             at.add(1).write(value);
-            self.record.set(at.add(2));
+            self.record.set(at.add(ENTRY_WORDS));
         }
     }
 
@@ -160,7 +162,7 @@ impl Device {
         let taken = self.reading.get() as usize - self.readings_start.get() as usize;
         Usage {
             used: taken / size_of::<u32>() + self.fed.get(),
-            made: self.recorded().len() / 2,
+            made: self.recorded().len() / ENTRY_WORDS,
             received: self.received.get(),
         }
     }

@@ -3,7 +3,7 @@
 //! These are the intended differences: document 01 gives each a cause from 22 on.
 
 use buslist::{refusal, List, Mode, Plan, PlannedCall, PlannedOperation, Settings};
-use device::code;
+use device::{code, ENTRY_WORDS};
 use embedded_hal::i2c::I2c as Bus;
 use original::pac::I2C1;
 
@@ -30,12 +30,12 @@ fn record_of(plan: Plan, cause: u32) -> Vec<u32> {
         &mut [0; 16],
         &mut record,
     );
-    record.truncate(2 * counts.made);
+    record.truncate(ENTRY_WORDS * counts.made);
     record
 }
 
 fn written(record: &[u32], code: u32) -> Vec<u32> {
-    let entries = record.chunks_exact(2);
+    let entries = record.chunks_exact(ENTRY_WORDS);
     entries
         .filter(|entry| entry[0] == code)
         .map(|entry| entry[1])
@@ -88,7 +88,7 @@ fn ten_bit_addresses() {
     });
     assert_eq!(ended, Ok(Ok(())));
     assert_eq!(
-        written(&record[..2 * usage.made], code::WRITE_DR),
+        written(&record[..ENTRY_WORDS * usage.made], code::WRITE_DR),
         [0, 0x50]
     );
 }

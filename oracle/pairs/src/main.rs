@@ -14,6 +14,7 @@ use std::process::ExitCode;
 
 use buslist::{List, Plan, PlannedOperation};
 use cases::{accepted, judge, plan, simulated, write_case, Case, Ran, Rng, Style};
+use device::ENTRY_WORDS;
 
 use reduce::{idle, reduced};
 
@@ -147,7 +148,7 @@ fn ending_well(rng: &mut Rng, plan: &Plan) -> Option<(Case, Ran)> {
 
 /// The record: the words of the accesses made.
 fn made(ran: &Ran) -> &[u32] {
-    &ran.record[..2 * ran.counts[3] as usize]
+    &ran.record[..ENTRY_WORDS * ran.counts[3] as usize]
 }
 
 fn keep(first: &Case, second: &Case) -> bool {

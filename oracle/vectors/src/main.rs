@@ -6,6 +6,7 @@ use std::collections::BTreeMap;
 use std::process::ExitCode;
 
 use cases::{ended_in, generate, judge, Case, Ran};
+use device::ENTRY_WORDS;
 
 /// Cases of this seed that are looked at.
 const LOOKED_AT: u64 = 200_000;
@@ -80,7 +81,7 @@ fn vector(case: &Case, ran: &Ran) -> Vec<u32> {
     ];
     vector.extend(packed(&case.list));
     vector.extend(&case.readings);
-    vector.extend(&ran.record[..2 * made as usize]);
+    vector.extend(&ran.record[..ENTRY_WORDS * made as usize]);
     vector.extend(packed(&ran.rx[..received as usize]));
     vector
 }

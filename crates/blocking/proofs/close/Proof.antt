@@ -8,8 +8,10 @@ returns c rx = call-stops (c .before .before .before .send-stop .ensures _ _) _ 
 
 returns-2 : tie.Need-returns-2
 returns-2 c rx =
-    let a = c .before .before .before .before .before in
-    call-last (call-step (a .before .before .before .before .send-stop .ensures _ _) _ here (a .a .given .1)) (waits-end (c .before .before .busy-wait-stop .ensures _ _ _))
+    let at-busy-wait-stop = c .before .before in
+    let at-a = at-busy-wait-stop .before .before .before in
+    let at-send-stop = at-a .before .before .before .before in
+    call-last (call-step (at-send-stop .send-stop .ensures _ _) _ here (at-a .a .given .1)) (waits-end (at-busy-wait-stop .busy-wait-stop .ensures _ _ _))
 
 pub close-spec : {M : Type 1} → statement M
 close-spec =

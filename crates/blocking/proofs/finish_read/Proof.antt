@@ -8,8 +8,10 @@ returns c rx = call-stops (waits-end (c .before .before .before .busy-wait-stop 
 
 returns-2 : tie.Need-returns-2
 returns-2 c rx =
-    let a = c .before .before .before .before .before in
-    call-last (call-step (waits-end (a .before .before .before .before .busy-wait-stop .ensures _ _ _)) _ here (a .a .given .1)) (c .before .before .modify-cr1 .ensures _ _)
+    let at-modify-cr1 = c .before .before in
+    let at-a = at-modify-cr1 .before .before .before in
+    let at-busy-wait-stop = at-a .before .before .before .before in
+    call-last (call-step (waits-end (at-busy-wait-stop .busy-wait-stop .ensures _ _ _)) _ here (at-a .a .given .1)) (at-modify-cr1 .modify-cr1 .ensures _ _)
 
 pub finish-read-spec : {M : Type 1} → statement M
 finish-read-spec =

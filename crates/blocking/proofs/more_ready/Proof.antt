@@ -8,8 +8,10 @@ returns c s rx = call-stops (c .before .before .before .modify-cr1 .ensures _ _)
 
 returns-2 : tie.Need-returns-2
 returns-2 c s rx =
-    let a = c .before .before .before .before .before in
-    call-last (call-step (a .before .before .before .before .modify-cr1 .ensures _ _) _ here (a .a .given .1)) (c .before .before .read-status .ensures _ _)
+    let at-read-status = c .before .before in
+    let at-a = at-read-status .before .before .before in
+    let at-modify-cr1 = at-a .before .before .before .before in
+    call-last (call-step (at-modify-cr1 .modify-cr1 .ensures _ _) _ here (at-a .a .given .1)) (at-read-status .read-status .ensures _ _)
 
 pub more-ready-spec : {M : Type 1} → statement M
 more-ready-spec =

@@ -25,23 +25,34 @@ returns-2 c = call-stops (c .before .before .before .send-start-and-wait .ensure
 
 returns-3 : tie.Need-returns-3
 returns-3 c =
-    let a = c .before .before .before .before .before .before in
-    call-stops (c .before .before .before .send-addr-and-wait .ensures _) _ (call-step (a .before .before .before .before .send-start-and-wait .ensures _) _ (rewritten (not-empty _ _ _ (a .before .before .before .before .before .before .if1 .left)) here) (a .a .given .1)) (c .match2 .keys2)
+    let at-send-addr-and-wait = c .before .before .before in
+    let at-a = at-send-addr-and-wait .before .before .before in
+    let at-send-start-and-wait = at-a .before .before .before .before in
+    let at-if1 = at-send-start-and-wait .before .before in
+    call-stops (at-send-addr-and-wait .send-addr-and-wait .ensures _) _ (call-step (at-send-start-and-wait .send-start-and-wait .ensures _) _ (rewritten (not-empty _ _ _ (at-if1 .if1 .left)) here) (at-a .a .given .1)) (c .match2 .keys2)
 
 read-arm-requires : tie.Need-read-arm-requires
 read-arm-requires c κs =
-    let b = c .before .before .before in
-    let a = b .before .before .before .before .before .before .before in (
-      keeps-fewer (b .before .before .before .before .send-addr-and-wait .ensures []) (b .b .given .1)
-          (keeps-fewer (a .before .before .before .before .send-start-and-wait .ensures []) (a .a .given .1) (a .before .before .before .before .before .before .before .before .before .before .pre .1)),
-      omega (arith, a .before .before .before .before .before .before .if1 .left),
+    let at-b = c .before .before .before in
+    let at-send-addr-and-wait = at-b .before .before .before .before in
+    let at-a = at-send-addr-and-wait .before .before .before in
+    let at-send-start-and-wait = at-a .before .before .before .before in
+    let at-if1 = at-send-start-and-wait .before .before in
+    let at-start = at-if1 .before .before .before .before in (
+      keeps-fewer (at-send-addr-and-wait .send-addr-and-wait .ensures []) (at-b .b .given .1)
+          (keeps-fewer (at-send-start-and-wait .send-start-and-wait .ensures []) (at-a .a .given .1) (at-start .pre .1)),
+      omega (arith, at-if1 .if1 .left),
     )
 
 returns-4 : tie.Need-returns-4
 returns-4 c =
-    let b = c .before .before .before .before .before .before .before .before in
-    let a = b .before .before .before .before .before .before .before in
-    call-last (call-step (b .before .before .before .before .send-addr-and-wait .ensures _) _ (call-step (a .before .before .before .before .send-start-and-wait .ensures _) _ (rewritten (not-empty _ _ _ (a .before .before .before .before .before .before .if1 .left)) here) (a .a .given .1)) (b .b .given .1)) (c .before .before .before .before .read-arm .ensures)
+    let at-read-arm = c .before .before .before .before in
+    let at-b = at-read-arm .before .before .before .before in
+    let at-send-addr-and-wait = at-b .before .before .before .before in
+    let at-a = at-send-addr-and-wait .before .before .before in
+    let at-send-start-and-wait = at-a .before .before .before .before in
+    let at-if1 = at-send-start-and-wait .before .before in
+    call-last (call-step (at-send-addr-and-wait .send-addr-and-wait .ensures _) _ (call-step (at-send-start-and-wait .send-start-and-wait .ensures _) _ (rewritten (not-empty _ _ _ (at-if1 .if1 .left)) here) (at-a .a .given .1)) (at-b .b .given .1)) (at-read-arm .read-arm .ensures)
 
 pub read-spec : {M : Type 1} → statement M
 read-spec =

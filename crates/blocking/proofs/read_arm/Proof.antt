@@ -22,7 +22,11 @@ unfolding read-arm
 returns-2 c = call-last (rewritten (ap (read-arm _) (c .before .before .before .before .before .before .before .match .keys2)) here) (c .before .before .before .before .read-two .ensures)
 
 returns-3 : tie.Need-returns-3
-returns-3 c = call-last (rewritten (more _ _ (c .before .before .before .before .before .before .before .before .before .before .before .pre .1) (c .before .before .before .before .before .before .before .match .rest .0 .1) (c .before .before .before .before .before .before .before .match .rest .1)) here) (c .before .before .before .before .read-more .ensures)
+returns-3 c =
+    let at-read-more = c .before .before .before .before in
+    let at-match = at-read-more .before .before .before in
+    let at-start = at-match .before .before .before .before in
+    call-last (rewritten (more _ _ (at-start .pre .1) (at-match .match .rest .0 .1) (at-match .match .rest .1)) here) (at-read-more .read-more .ensures)
 
 pub read-arm-spec : {M : Type 1} → statement M
 read-arm-spec =

@@ -9,25 +9,35 @@ returns c = call-stops (c .before .before .before .more-ready .ensures _ _) _ he
 
 receive-bytes-requires : tie.Need-receive-bytes-requires
 receive-bytes-requires c κs =
-    let a = c .before .before .before in
-    keeps-fewer (a .before .before .before .before .more-ready .ensures no-setup []) (a .a .given .1) (a .before .before .before .before .before .before .before .before .before .pre)
+    let at-a = c .before .before .before in
+    let at-more-ready = at-a .before .before .before .before in
+    let at-start = at-more-ready .before .before .before .before .before in
+    keeps-fewer (at-more-ready .more-ready .ensures no-setup []) (at-a .a .given .1) (at-start .pre)
 
 returns-2 : tie.Need-returns-2
 returns-2 c =
-    let a = c .before .before .before .before .before .before .before .before .before in
-    call-stops (c .before .before .before .before .before .receive-bytes .ensures) _ (call-step (a .before .before .before .before .more-ready .ensures _ _) _ here (a .a .given .1)) (c .match2 .keys2)
+    let at-receive-bytes = c .before .before .before .before .before in
+    let at-a = at-receive-bytes .before .before .before .before in
+    let at-more-ready = at-a .before .before .before .before in
+    call-stops (at-receive-bytes .receive-bytes .ensures) _ (call-step (at-more-ready .more-ready .ensures _ _) _ here (at-a .a .given .1)) (c .match2 .keys2)
 
 last-three-requires : tie.Need-last-three-requires
 last-three-requires c κs =
-    let b = c .before .before .before in
-    let a = b .before .before .before .before .before .before .before .before .before .before in
-    keeps-fewer (b .before .before .before .before .before .before .receive-bytes .ensures) (b .b .given .1) (keeps-fewer (a .before .before .before .before .more-ready .ensures no-setup []) (a .a .given .1) (a .before .before .before .before .before .before .before .before .before .pre))
+    let at-b = c .before .before .before in
+    let at-receive-bytes = at-b .before .before .before .before .before .before in
+    let at-a = at-receive-bytes .before .before .before .before in
+    let at-more-ready = at-a .before .before .before .before in
+    let at-start = at-more-ready .before .before .before .before .before in
+    keeps-fewer (at-receive-bytes .receive-bytes .ensures) (at-b .b .given .1) (keeps-fewer (at-more-ready .more-ready .ensures no-setup []) (at-a .a .given .1) (at-start .pre))
 
 returns-3 : tie.Need-returns-3
 returns-3 c =
-    let b = c .before .before .before .before .before .before .before .before in
-    let a = b .before .before .before .before .before .before .before .before .before .before in
-    call-last (call-step (b .before .before .before .before .before .before .receive-bytes .ensures) _ (call-step (a .before .before .before .before .more-ready .ensures _ _) _ here (a .a .given .1)) (b .b .given .1)) (c .before .before .before .before .last-three .ensures)
+    let at-last-three = c .before .before .before .before in
+    let at-b = at-last-three .before .before .before .before in
+    let at-receive-bytes = at-b .before .before .before .before .before .before in
+    let at-a = at-receive-bytes .before .before .before .before in
+    let at-more-ready = at-a .before .before .before .before in
+    call-last (call-step (at-receive-bytes .receive-bytes .ensures) _ (call-step (at-more-ready .more-ready .ensures _ _) _ here (at-a .a .given .1)) (at-b .b .given .1)) (at-last-three .last-three .ensures)
 
 pub read-more-spec : {M : Type 1} → statement M
 read-more-spec =

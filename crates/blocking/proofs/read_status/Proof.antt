@@ -8,8 +8,10 @@ returns c s rx = call-stops (c .before .before .before .get .ensures _ _) _ here
 
 returns-2 : tie.Need-returns-2
 returns-2 c s rx =
-    let a = c .before .before .before .before .before in
-    call-last (call-step (a .before .before .before .before .get .ensures _ _) _ here (a .a .given .1)) (c .before .before .get2 .ensures _ _)
+    let at-get2 = c .before .before in
+    let at-a = at-get2 .before .before .before in
+    let at-get = at-a .before .before .before .before in
+    call-last (call-step (at-get .get .ensures _ _) _ here (at-a .a .given .1)) (at-get2 .get2 .ensures _ _)
 
 pub read-status-spec : {M : Type 1} → statement M
 read-status-spec =

@@ -9,19 +9,26 @@ returns c = call-stops (c .before .before .before .two-ready .ensures _) _ here 
 
 two-bytes-requires : tie.Need-two-bytes-requires
 two-bytes-requires c κs =
-    let a = c .before .before .before in
-    keeps-fewer (a .before .before .before .before .two-ready .ensures []) (a .a .given .1) (a .before .before .before .before .before .before .before .before .before .pre)
+    let at-a = c .before .before .before in
+    let at-two-ready = at-a .before .before .before .before in
+    let at-start = at-two-ready .before .before .before .before .before in
+    keeps-fewer (at-two-ready .two-ready .ensures []) (at-a .a .given .1) (at-start .pre)
 
 returns-2 : tie.Need-returns-2
 returns-2 c =
-    let a = c .before .before .before .before .before .before .before .before .before in
-    call-stops (c .before .before .before .before .before .two-bytes .ensures _) _ (call-step (a .before .before .before .before .two-ready .ensures _) _ here (a .a .given .1)) (c .match2 .keys2)
+    let at-two-bytes = c .before .before .before .before .before in
+    let at-a = at-two-bytes .before .before .before .before in
+    let at-two-ready = at-a .before .before .before .before in
+    call-stops (at-two-bytes .two-bytes .ensures _) _ (call-step (at-two-ready .two-ready .ensures _) _ here (at-a .a .given .1)) (c .match2 .keys2)
 
 returns-3 : tie.Need-returns-3
 returns-3 c =
-    let b = c .before .before .before .before .before in
-    let a = b .before .before .before .before .before .before .before .before .before .before in
-    call-last (call-step (b .before .before .before .before .before .before .two-bytes .ensures _) _ (call-step (a .before .before .before .before .two-ready .ensures _) _ here (a .a .given .1)) (b .b .given .1)) (c .before .before .two-end .ensures _)
+    let at-two-end = c .before .before in
+    let at-b = at-two-end .before .before .before in
+    let at-two-bytes = at-b .before .before .before .before .before .before in
+    let at-a = at-two-bytes .before .before .before .before in
+    let at-two-ready = at-a .before .before .before .before in
+    call-last (call-step (at-two-bytes .two-bytes .ensures _) _ (call-step (at-two-ready .two-ready .ensures _) _ here (at-a .a .given .1)) (at-b .b .given .1)) (at-two-end .two-end .ensures _)
 
 pub read-two-spec : {M : Type 1} → statement M
 read-two-spec =

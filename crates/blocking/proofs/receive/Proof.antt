@@ -9,13 +9,17 @@ returns c = call-stops (waits-end (c .before .before .before .busy-wait-flag .en
 
 read-data-requires : tie.Need-read-data-requires
 read-data-requires c κs =
-    let a = c .before .before .before in
-    keeps-fewer (waits-end (a .before .before .before .before .busy-wait-flag .ensures no-setup _ [])) (a .a .given .1) (a .before .before .before .before .before .before .before .before .before .pre)
+    let at-a = c .before .before .before in
+    let at-busy-wait-flag = at-a .before .before .before .before in
+    let at-start = at-busy-wait-flag .before .before .before .before .before in
+    keeps-fewer (waits-end (at-busy-wait-flag .busy-wait-flag .ensures no-setup _ [])) (at-a .a .given .1) (at-start .pre)
 
 returns-2 : tie.Need-returns-2
 returns-2 c =
-    let a = c .before .before .before .before .before .before .before .before in
-    call-last (call-step (waits-end (a .before .before .before .before .busy-wait-flag .ensures _ _ _)) _ here (a .a .given .1)) (c .before .before .before .before .read-data .ensures _)
+    let at-read-data = c .before .before .before .before in
+    let at-a = at-read-data .before .before .before .before in
+    let at-busy-wait-flag = at-a .before .before .before .before in
+    call-last (call-step (waits-end (at-busy-wait-flag .busy-wait-flag .ensures _ _ _)) _ here (at-a .a .given .1)) (at-read-data .read-data .ensures _)
 
 pub receive-spec : {M : Type 1} → statement M
 receive-spec =

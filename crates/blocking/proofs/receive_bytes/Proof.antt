@@ -39,7 +39,11 @@ receive-requires : tie.Need-receive-requires Inv-loop μ-loop
 receive-requires c κs = c .before .before .before .loop .inv .3
 
 returns : tie.Need-returns Inv-loop μ-loop
-returns c = call-stops (c .before .before .before .before .before .receive .ensures) _ (rewritten (next-byte _ _ _ (c .before .before .before .before .before .before .before .before .loop-test .taken)) (c .before .before .before .before .before .before .before .before .before .loop .inv .0)) (c .match .keys2)
+returns c =
+    let at-receive = c .before .before .before .before .before in
+    let at-loop-test = at-receive .before .before .before in
+    let at-loop = at-loop-test .before in
+    call-stops (at-receive .receive .ensures) _ (rewritten (next-byte _ _ _ (at-loop-test .loop-test .taken)) (at-loop .loop .inv .0)) (c .match .keys2)
 
 loop-again : tie.Need-loop-again Inv-loop μ-loop
 loop-again c =

@@ -9,13 +9,17 @@ returns c s = call-stops (c .before .before .before .send-stop .ensures _ _) _ h
 
 read-data-requires : tie.Need-read-data-requires
 read-data-requires c κs =
-    let a = c .before .before .before in
-    keeps-fewer (a .before .before .before .before .send-stop .ensures no-setup []) (a .a .given .1) (a .before .before .before .before .before .before .before .before .before .pre)
+    let at-a = c .before .before .before in
+    let at-send-stop = at-a .before .before .before .before in
+    let at-start = at-send-stop .before .before .before .before .before in
+    keeps-fewer (at-send-stop .send-stop .ensures no-setup []) (at-a .a .given .1) (at-start .pre)
 
 returns-2 : tie.Need-returns-2
 returns-2 c s =
-    let a = c .before .before .before .before .before .before .before .before in
-    call-last (call-step (a .before .before .before .before .send-stop .ensures _ _) _ here (a .a .given .1)) (c .before .before .before .before .read-data .ensures _)
+    let at-read-data = c .before .before .before .before in
+    let at-a = at-read-data .before .before .before .before in
+    let at-send-stop = at-a .before .before .before .before in
+    call-last (call-step (at-send-stop .send-stop .ensures _ _) _ here (at-a .a .given .1)) (at-read-data .read-data .ensures _)
 
 pub second-last-spec : {M : Type 1} → statement M
 second-last-spec =

@@ -64,28 +64,73 @@ loop-holds : tie.Need-loop-holds Inv-loop μ-loop
 loop-holds c = ((λ rx. here), refl)
 
 returns : tie.Need-returns Inv-loop μ-loop
-returns c rx = call-stops (c .before .before .before .send-start .ensures _ rx) _ (try-first _ _ (c .before .before .before .before .before .loop-test .taken) (c .before .before .before .before .before .before .loop .inv .0 rx)) (c .match .keys2)
+returns c rx =
+    let at-send-start = c .before .before .before in
+    let at-loop-test = at-send-start .before .before in
+    let at-loop = at-loop-test .before in
+    call-stops (at-send-start .send-start .ensures _ rx) _ (try-first _ _ (at-loop-test .loop-test .taken) (at-loop .loop .inv .0 rx)) (c .match .keys2)
 
 returns-2 : tie.Need-returns-2 Inv-loop μ-loop
-returns-2 c rx = wait-last (c .before .before .before .busy-wait-flag .ensures _ _ rx) (call-step (c .before .before .before .before .before .before .before .before .before .before .send-start .ensures _ rx) _ (try-first _ _ (c .before .before .before .before .before .before .before .before .before .before .before .before .loop-test .taken) (c .before .before .before .before .before .before .before .before .before .before .before .before .before .loop .inv .0 rx)) (c .before .before .before .before .before .before .a .given .1)) (c .match2 .keys2)
+returns-2 c rx =
+    let at-busy-wait-flag = c .before .before .before in
+    let at-a = at-busy-wait-flag .before .before .before in
+    let at-send-start = at-a .before .before .before .before in
+    let at-loop-test = at-send-start .before .before in
+    let at-loop = at-loop-test .before in
+    wait-last (at-busy-wait-flag .busy-wait-flag .ensures _ _ rx) (call-step (at-send-start .send-start .ensures _ rx) _ (try-first _ _ (at-loop-test .loop-test .taken) (at-loop .loop .inv .0 rx)) (at-a .a .given .1)) (c .match2 .keys2)
 
 same-length-3 : tie.Need-same-length-3 Inv-loop μ-loop
-same-length-3 c = omega (arith, c .before .before .before .reset .kept, c .before .before .before .before .before .before .before .before .before .before .busy-wait-flag .kept, c .before .before .before .before .before .before .before .before .before .before .before .before .before .before .before .before .before .send-start .kept, c .before .before .before .before .before .before .before .before .before .before .before .before .before .before .before .before .before .before .before .before .loop .inv .1)
+same-length-3 c =
+    let at-reset = c .before .before .before in
+    let at-busy-wait-flag = at-reset .before .before .before .before .before .before .before in
+    let at-send-start = at-busy-wait-flag .before .before .before .before .before .before .before in
+    let at-loop = at-send-start .before .before .before in
+    omega (arith, at-reset .reset .kept, at-busy-wait-flag .busy-wait-flag .kept, at-send-start .send-start .kept, at-loop .loop .inv .1)
 
 returns-3 : tie.Need-returns-3 Inv-loop μ-loop
-returns-3 c rx = call-stops (c .before .before .before .reset .ensures rx) _ (try-fails (try-first _ _ (c .before .before .before .before .before .before .before .before .before .before .before .before .before .before .before .before .before .before .before .loop-test .taken) (c .before .before .before .before .before .before .before .before .before .before .before .before .before .before .before .before .before .before .before .before .loop .inv .0 rx)) (c .before .before .before .before .before .before .before .before .before .before .before .before .before .before .before .before .before .send-start .ensures _ rx) (c .before .before .before .before .before .before .before .before .before .before .before .before .before .a .given .1) (c .before .before .before .before .before .before .before .before .before .before .busy-wait-flag .ensures _ _ rx) (c .before .before .before .before .before .before .w .given .1)) (c .match3 .keys2)
+returns-3 c rx =
+    let at-reset = c .before .before .before in
+    let at-w = at-reset .before .before .before in
+    let at-busy-wait-flag = at-w .before .before .before .before in
+    let at-a = at-busy-wait-flag .before .before .before in
+    let at-send-start = at-a .before .before .before .before in
+    let at-loop-test = at-send-start .before .before in
+    let at-loop = at-loop-test .before in
+    call-stops (at-reset .reset .ensures rx) _ (try-fails (try-first _ _ (at-loop-test .loop-test .taken) (at-loop .loop .inv .0 rx)) (at-send-start .send-start .ensures _ rx) (at-a .a .given .1) (at-busy-wait-flag .busy-wait-flag .ensures _ _ rx) (at-w .w .given .1)) (c .match3 .keys2)
 
 same-length-4 : tie.Need-same-length-4 Inv-loop μ-loop
-same-length-4 c = omega (arith, c .before .before .before .before .before .before .reset .kept, c .before .before .before .before .before .before .before .before .before .before .before .before .before .busy-wait-flag .kept, c .before .before .before .before .before .before .before .before .before .before .before .before .before .before .before .before .before .before .before .before .send-start .kept, c .before .before .before .before .before .before .before .before .before .before .before .before .before .before .before .before .before .before .before .before .before .before .before .loop .inv .1)
+same-length-4 c =
+    let at-reset = c .before .before .before .before .before .before in
+    let at-busy-wait-flag = at-reset .before .before .before .before .before .before .before in
+    let at-send-start = at-busy-wait-flag .before .before .before .before .before .before .before in
+    let at-loop = at-send-start .before .before .before in
+    omega (arith, at-reset .reset .kept, at-busy-wait-flag .busy-wait-flag .kept, at-send-start .send-start .kept, at-loop .loop .inv .1)
 
 returns-4 : tie.Need-returns-4 Inv-loop μ-loop
-returns-4 c rx = ends-failed (rewritten (again-none _ _ _ (c .if1 .taken)) (call-step (c .before .before .before .before .before .before .reset .ensures rx) _ (try-fails (try-first _ _ (c .before .before .before .before .before .before .before .before .before .before .before .before .before .before .before .before .before .before .before .before .before .before .loop-test .taken) (c .before .before .before .before .before .before .before .before .before .before .before .before .before .before .before .before .before .before .before .before .before .before .before .loop .inv .0 rx)) (c .before .before .before .before .before .before .before .before .before .before .before .before .before .before .before .before .before .before .before .before .send-start .ensures _ rx) (c .before .before .before .before .before .before .before .before .before .before .before .before .before .before .before .before .a .given .1) (c .before .before .before .before .before .before .before .before .before .before .before .before .before .busy-wait-flag .ensures _ _ rx) (c .before .before .before .before .before .before .before .before .before .w .given .1)) (c .before .before .b .given .1)))
+returns-4 c rx =
+    let at-b = c .before .before in
+    let at-reset = at-b .before .before .before .before in
+    let at-w = at-reset .before .before .before in
+    let at-busy-wait-flag = at-w .before .before .before .before in
+    let at-a = at-busy-wait-flag .before .before .before in
+    let at-send-start = at-a .before .before .before .before in
+    let at-loop-test = at-send-start .before .before in
+    let at-loop = at-loop-test .before in
+    ends-failed (rewritten (again-none _ _ _ (c .if1 .taken)) (call-step (at-reset .reset .ensures rx) _ (try-fails (try-first _ _ (at-loop-test .loop-test .taken) (at-loop .loop .inv .0 rx)) (at-send-start .send-start .ensures _ rx) (at-a .a .given .1) (at-busy-wait-flag .busy-wait-flag .ensures _ _ rx) (at-w .w .given .1)) (at-b .b .given .1)))
 
 loop-again : tie.Need-loop-again Inv-loop μ-loop
-loop-again c = (
-  (λ rx. rewritten (again-more _ _ _ (c .if1 .left)) (call-step (c .before .before .before .before .before .before .reset .ensures rx) _ (try-fails (try-first _ _ (c .before .before .before .before .before .before .before .before .before .before .before .before .before .before .before .before .before .before .before .before .before .before .loop-test .taken) (c .before .before .before .before .before .before .before .before .before .before .before .before .before .before .before .before .before .before .before .before .before .before .before .loop .inv .0 rx)) (c .before .before .before .before .before .before .before .before .before .before .before .before .before .before .before .before .before .before .before .before .send-start .ensures _ rx) (c .before .before .before .before .before .before .before .before .before .before .before .before .before .before .before .before .a .given .1) (c .before .before .before .before .before .before .before .before .before .before .before .before .before .busy-wait-flag .ensures _ _ rx) (c .before .before .before .before .before .before .before .before .before .w .given .1)) (c .before .before .b .given .1))),
-  omega (arith, c .before .before .before .before .before .before .reset .kept, c .before .before .before .before .before .before .before .before .before .before .before .before .before .busy-wait-flag .kept, c .before .before .before .before .before .before .before .before .before .before .before .before .before .before .before .before .before .before .before .before .send-start .kept, c .before .before .before .before .before .before .before .before .before .before .before .before .before .before .before .before .before .before .before .before .before .before .before .loop .inv .1),
-)
+loop-again c =
+    let at-b = c .before .before in
+    let at-reset = at-b .before .before .before .before in
+    let at-w = at-reset .before .before .before in
+    let at-busy-wait-flag = at-w .before .before .before .before in
+    let at-a = at-busy-wait-flag .before .before .before in
+    let at-send-start = at-a .before .before .before .before in
+    let at-loop-test = at-send-start .before .before in
+    let at-loop = at-loop-test .before in (
+      (λ rx. rewritten (again-more _ _ _ (c .if1 .left)) (call-step (at-reset .reset .ensures rx) _ (try-fails (try-first _ _ (at-loop-test .loop-test .taken) (at-loop .loop .inv .0 rx)) (at-send-start .send-start .ensures _ rx) (at-a .a .given .1) (at-busy-wait-flag .busy-wait-flag .ensures _ _ rx) (at-w .w .given .1)) (at-b .b .given .1))),
+      omega (arith, at-reset .reset .kept, at-busy-wait-flag .busy-wait-flag .kept, at-send-start .send-start .kept, at-loop .loop .inv .1),
+    )
 
 returns-5 : tie.Need-returns-5 Inv-loop μ-loop
 returns-5 c rx = ends-well (rewritten (start-none _ _ (c .loop-test .left)) (c .before .loop .inv .0 rx))

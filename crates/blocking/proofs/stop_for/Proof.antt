@@ -34,10 +34,16 @@ stops-other s BusError.Crc h = refl
 stops-other s BusError.ArbitrationLoss h = refl
 
 returns : tie.Need-returns
-returns c s rx = call-stops (c .before .before .before .send-stop .ensures s rx) _ (rewritten (stops-unacknowledged s _ (c .before .before .before .before .before .enum-told .given .1)) here) (c .match2 .keys2)
+returns c s rx =
+    let at-send-stop = c .before .before .before in
+    let at-enum-told = at-send-stop .before .before in
+    call-stops (at-send-stop .send-stop .ensures s rx) _ (rewritten (stops-unacknowledged s _ (at-enum-told .enum-told .given .1)) here) (c .match2 .keys2)
 
 returns-2 : tie.Need-returns-2
-returns-2 c s rx = ends-failed (call-step (c .before .before .before .before .before .send-stop .ensures s rx) _ (rewritten (stops-unacknowledged s _ (c .before .before .before .before .before .before .before .enum-told .given .1)) here) (c .before .a .given .1))
+returns-2 c s rx =
+    let at-send-stop = c .before .before .before .before .before in
+    let at-enum-told = at-send-stop .before .before in
+    ends-failed (call-step (at-send-stop .send-stop .ensures s rx) _ (rewritten (stops-unacknowledged s _ (at-enum-told .enum-told .given .1)) here) (c .before .a .given .1))
 
 returns-3 : tie.Need-returns-3
 returns-3 c s rx = ends-failed (rewritten (stops-other s _ (c .match .keys2)) here)

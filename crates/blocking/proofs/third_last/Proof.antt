@@ -9,20 +9,28 @@ returns c = call-stops (waits-end (c .before .before .before .busy-wait-flag .en
 
 returns-2 : tie.Need-returns-2
 returns-2 c =
-    let a = c .before .before .before .before .before .before in
-    call-stops (c .before .before .before .modify-cr1 .ensures _ _) _ (call-step (waits-end (a .before .before .before .before .busy-wait-flag .ensures _ _ _)) _ here (a .a .given .1)) (c .match2 .keys2)
+    let at-modify-cr1 = c .before .before .before in
+    let at-a = at-modify-cr1 .before .before .before in
+    let at-busy-wait-flag = at-a .before .before .before .before in
+    call-stops (at-modify-cr1 .modify-cr1 .ensures _ _) _ (call-step (waits-end (at-busy-wait-flag .busy-wait-flag .ensures _ _ _)) _ here (at-a .a .given .1)) (c .match2 .keys2)
 
 read-data-requires : tie.Need-read-data-requires
 read-data-requires c κs =
-    let b = c .before .before .before in
-    let a = b .before .before .before .before .before .before .before in
-    keeps-fewer (b .before .before .before .before .modify-cr1 .ensures no-setup []) (b .b .given .1) (keeps-fewer (waits-end (a .before .before .before .before .busy-wait-flag .ensures no-setup _ [])) (a .a .given .1) (a .before .before .before .before .before .before .before .before .before .pre))
+    let at-b = c .before .before .before in
+    let at-modify-cr1 = at-b .before .before .before .before in
+    let at-a = at-modify-cr1 .before .before .before in
+    let at-busy-wait-flag = at-a .before .before .before .before in
+    let at-start = at-busy-wait-flag .before .before .before .before .before in
+    keeps-fewer (at-modify-cr1 .modify-cr1 .ensures no-setup []) (at-b .b .given .1) (keeps-fewer (waits-end (at-busy-wait-flag .busy-wait-flag .ensures no-setup _ [])) (at-a .a .given .1) (at-start .pre))
 
 returns-3 : tie.Need-returns-3
 returns-3 c =
-    let b = c .before .before .before .before .before .before .before .before in
-    let a = b .before .before .before .before .before .before .before in
-    call-last (call-step (b .before .before .before .before .modify-cr1 .ensures _ _) _ (call-step (waits-end (a .before .before .before .before .busy-wait-flag .ensures _ _ _)) _ here (a .a .given .1)) (b .b .given .1)) (c .before .before .before .before .read-data .ensures _)
+    let at-read-data = c .before .before .before .before in
+    let at-b = at-read-data .before .before .before .before in
+    let at-modify-cr1 = at-b .before .before .before .before in
+    let at-a = at-modify-cr1 .before .before .before in
+    let at-busy-wait-flag = at-a .before .before .before .before in
+    call-last (call-step (at-modify-cr1 .modify-cr1 .ensures _ _) _ (call-step (waits-end (at-busy-wait-flag .busy-wait-flag .ensures _ _ _)) _ here (at-a .a .given .1)) (at-b .b .given .1)) (at-read-data .read-data .ensures _)
 
 pub third-last-spec : {M : Type 1} → statement M
 third-last-spec =

@@ -9,25 +9,35 @@ returns c s = call-stops (c .before .before .before .send-stop .ensures _ _) _ h
 
 read-data-requires : tie.Need-read-data-requires
 read-data-requires c κs =
-    let a = c .before .before .before in
-    keeps-fewer (a .before .before .before .before .send-stop .ensures no-setup []) (a .a .given .1) (a .before .before .before .before .before .before .before .before .before .pre)
+    let at-a = c .before .before .before in
+    let at-send-stop = at-a .before .before .before .before in
+    let at-start = at-send-stop .before .before .before .before .before in
+    keeps-fewer (at-send-stop .send-stop .ensures no-setup []) (at-a .a .given .1) (at-start .pre)
 
 returns-2 : tie.Need-returns-2
 returns-2 c s =
-    let a = c .before .before .before .before .before .before .before .before .before in
-    call-stops (c .before .before .before .before .before .read-data .ensures _) _ (call-step (a .before .before .before .before .send-stop .ensures _ _) _ here (a .a .given .1)) (c .match2 .keys2)
+    let at-read-data = c .before .before .before .before .before in
+    let at-a = at-read-data .before .before .before .before in
+    let at-send-stop = at-a .before .before .before .before in
+    call-stops (at-read-data .read-data .ensures _) _ (call-step (at-send-stop .send-stop .ensures _ _) _ here (at-a .a .given .1)) (c .match2 .keys2)
 
 read-data-requires-2 : tie.Need-read-data-requires-2
 read-data-requires-2 c κs =
-    let b = c .before .before .before in
-    let a = b .before .before .before .before .before .before .before .before .before .before in
-    keeps-fewer (b .before .before .before .before .before .before .read-data .ensures no-setup) (b .b .given .1) (keeps-fewer (a .before .before .before .before .send-stop .ensures no-setup []) (a .a .given .1) (a .before .before .before .before .before .before .before .before .before .pre))
+    let at-b = c .before .before .before in
+    let at-read-data = at-b .before .before .before .before .before .before in
+    let at-a = at-read-data .before .before .before .before in
+    let at-send-stop = at-a .before .before .before .before in
+    let at-start = at-send-stop .before .before .before .before .before in
+    keeps-fewer (at-read-data .read-data .ensures no-setup) (at-b .b .given .1) (keeps-fewer (at-send-stop .send-stop .ensures no-setup []) (at-a .a .given .1) (at-start .pre))
 
 returns-3 : tie.Need-returns-3
 returns-3 c s =
-    let b = c .before .before .before .before .before .before .before .before in
-    let a = b .before .before .before .before .before .before .before .before .before .before in
-    call-last (call-step (b .before .before .before .before .before .before .read-data .ensures _) _ (call-step (a .before .before .before .before .send-stop .ensures _ _) _ here (a .a .given .1)) (b .b .given .1)) (c .before .before .before .before .read-data2 .ensures _)
+    let at-read-data2 = c .before .before .before .before in
+    let at-b = at-read-data2 .before .before .before .before in
+    let at-read-data = at-b .before .before .before .before .before .before in
+    let at-a = at-read-data .before .before .before .before in
+    let at-send-stop = at-a .before .before .before .before in
+    call-last (call-step (at-read-data .read-data .ensures _) _ (call-step (at-send-stop .send-stop .ensures _ _) _ here (at-a .a .given .1)) (at-b .b .given .1)) (at-read-data2 .read-data2 .ensures _)
 
 pub two-bytes-spec : {M : Type 1} → statement M
 two-bytes-spec =

@@ -8,14 +8,19 @@ returns c rx = call-stops (waits-end (c .before .before .before .busy-wait-stop 
 
 returns-2 : tie.Need-returns-2
 returns-2 c rx =
-    let a = c .before .before .before .before .before .before in
-    call-stops (c .before .before .before .modify-cr1 .ensures _ _) _ (call-step (waits-end (a .before .before .before .before .busy-wait-stop .ensures _ _ _)) _ here (a .a .given .1)) (c .match2 .keys2)
+    let at-modify-cr1 = c .before .before .before in
+    let at-a = at-modify-cr1 .before .before .before in
+    let at-busy-wait-stop = at-a .before .before .before .before in
+    call-stops (at-modify-cr1 .modify-cr1 .ensures _ _) _ (call-step (waits-end (at-busy-wait-stop .busy-wait-stop .ensures _ _ _)) _ here (at-a .a .given .1)) (c .match2 .keys2)
 
 returns-3 : tie.Need-returns-3
 returns-3 c rx =
-    let b = c .before .before .before .before .before in
-    let a = b .before .before .before .before .before .before .before in
-    call-last (call-step (b .before .before .before .before .modify-cr1 .ensures _ _) _ (call-step (waits-end (a .before .before .before .before .busy-wait-stop .ensures _ _ _)) _ here (a .a .given .1)) (b .b .given .1)) (c .before .before .modify-cr12 .ensures _ _)
+    let at-modify-cr12 = c .before .before in
+    let at-b = at-modify-cr12 .before .before .before in
+    let at-modify-cr1 = at-b .before .before .before .before in
+    let at-a = at-modify-cr1 .before .before .before in
+    let at-busy-wait-stop = at-a .before .before .before .before in
+    call-last (call-step (at-modify-cr1 .modify-cr1 .ensures _ _) _ (call-step (waits-end (at-busy-wait-stop .busy-wait-stop .ensures _ _ _)) _ here (at-a .a .given .1)) (at-b .b .given .1)) (at-modify-cr12 .modify-cr12 .ensures _ _)
 
 pub two-end-spec : {M : Type 1} → statement M
 two-end-spec =

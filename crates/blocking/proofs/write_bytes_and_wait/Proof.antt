@@ -26,20 +26,30 @@ cast-write-first : tie.Need-cast-write-first
 cast-write-first c = omega (arith, c .shared-slice-known3 .given 0)
 
 returns : tie.Need-returns
-returns c rx = wait-stops (settles (get-unfailing SR1 refl (get-unfailing SR2 refl (put-unfailing wDR _ refl nothing-fails))) (c .before .before .before .write-first .ensures _ rx)) _ (rewritten (its-bytes _ _ (c .before .before .before .before .before .before .before .before .before .before .pre)) here) (c .match .keys2)
+returns c rx =
+    let at-write-first = c .before .before .before in
+    let at-start = at-write-first .before .before .before .before .before .before .before in
+    wait-stops (settles (get-unfailing SR1 refl (get-unfailing SR2 refl (put-unfailing wDR _ refl nothing-fails))) (at-write-first .write-first .ensures _ rx)) _ (rewritten (its-bytes _ _ (at-start .pre)) here) (c .match .keys2)
 
 returns-2 : tie.Need-returns-2
 returns-2 c rx =
-    let a = c .before .before .before .before .before .before .before in
-    wait-stops (c .before .before .before .write-later .ensures rx) _ (call-step (a .before .before .before .before .write-first .ensures _ rx) _ (rewritten (its-bytes _ _ (a .before .before .before .before .before .before .before .before .before .before .before .pre)) here) (a .a .given .1)) (c .match2 .keys2)
+    let at-write-later = c .before .before .before in
+    let at-a = at-write-later .before .before .before .before in
+    let at-write-first = at-a .before .before .before .before in
+    let at-start = at-write-first .before .before .before .before .before .before .before in
+    wait-stops (at-write-later .write-later .ensures rx) _ (call-step (at-write-first .write-first .ensures _ rx) _ (rewritten (its-bytes _ _ (at-start .pre)) here) (at-a .a .given .1)) (c .match2 .keys2)
 
 returns-3 : tie.Need-returns-3
 returns-3 c rx =
-    let b = c .before .before .before .before .before in
-    let a = b .before .before .before .before .before .before .before .before in
+    let at-busy-wait-flag = c .before .before in
+    let at-b = at-busy-wait-flag .before .before .before in
+    let at-write-later = at-b .before .before .before .before in
+    let at-a = at-write-later .before .before .before .before in
+    let at-write-first = at-a .before .before .before .before in
+    let at-start = at-write-first .before .before .before .before .before .before .before in
     waits-last
-    (wait-step (b .before .before .before .before .write-later .ensures rx) _ (call-step (a .before .before .before .before .write-first .ensures _ rx) _ (rewritten (its-bytes _ _ (a .before .before .before .before .before .before .before .before .before .before .before .pre)) here) (a .a .given .1)) (b .b .given .1))
-    (c .before .before .busy-wait-flag .ensures _ _ rx)
+    (wait-step (at-write-later .write-later .ensures rx) _ (call-step (at-write-first .write-first .ensures _ rx) _ (rewritten (its-bytes _ _ (at-start .pre)) here) (at-a .a .given .1)) (at-b .b .given .1))
+    (at-busy-wait-flag .busy-wait-flag .ensures _ _ rx)
 
 pub write-bytes-and-wait-spec : {M : Type 1} → statement M
 write-bytes-and-wait-spec =

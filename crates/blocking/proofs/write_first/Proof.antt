@@ -9,8 +9,10 @@ returns c s rx = call-stops (c .before .before .before .read-status .ensures _ _
 
 returns-2 : tie.Need-returns-2
 returns-2 c s rx =
-    let a = c .before .before .before .before .before in
-    write-last (call-step (a .before .before .before .before .read-status .ensures _ _) _ here (a .a .given .1)) (c .before .before .write .ensures _ _) refl
+    let at-write = c .before .before in
+    let at-a = at-write .before .before .before in
+    let at-read-status = at-a .before .before .before .before in
+    write-last (call-step (at-read-status .read-status .ensures _ _) _ here (at-a .a .given .1)) (at-write .write .ensures _ _) refl
 
 pub write-first-spec : {M : Type 1} → statement M
 write-first-spec =

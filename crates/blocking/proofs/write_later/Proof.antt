@@ -45,16 +45,24 @@ loop-holds : tie.Need-loop-holds Inv-loop μ-loop
 loop-holds c = ((λ s rx e. here), refl, omega arith)
 
 returns : tie.Need-returns Inv-loop μ-loop
-returns c rx = wait-stops (c .before .before .before .busy-wait-flag .ensures _ _ rx) _ (rewritten (next-byte _ refl _ _ (c .before .before .before .before .before .loop-test .taken)) (c .before .before .before .before .before .before .loop .inv .0 _ rx refl)) (c .match .keys2)
+returns c rx =
+    let at-busy-wait-flag = c .before .before .before in
+    let at-loop-test = at-busy-wait-flag .before .before in
+    let at-loop = at-loop-test .before in
+    wait-stops (at-busy-wait-flag .busy-wait-flag .ensures _ _ rx) _ (rewritten (next-byte _ refl _ _ (at-loop-test .loop-test .taken)) (at-loop .loop .inv .0 _ rx refl)) (c .match .keys2)
 
 cast-write : tie.Need-cast-write Inv-loop μ-loop
 cast-write c = omega (arith, c .shared-slice-known3 .given (c .before .before .before .before .before .before .before .before .before .before .loop .i))
 
 returns-2 : tie.Need-returns-2 Inv-loop μ-loop
 returns-2 c rx =
-    let w = c .before .before .before .before .before .before .before in
-    wait-stops (settles (put-unfailing _ _ refl nothing-fails) (write-last here (c .before .before .before .write .ensures _ rx) refl)) _
-    (wait-step (w .before .before .before .before .busy-wait-flag .ensures _ _ rx) _ (rewritten (next-byte _ refl _ _ (w .before .before .before .before .before .before .loop-test .taken)) (w .before .before .before .before .before .before .before .loop .inv .0 _ rx refl)) (w .w .given .1))
+    let at-write = c .before .before .before in
+    let at-w = at-write .before .before .before .before in
+    let at-busy-wait-flag = at-w .before .before .before .before in
+    let at-loop-test = at-busy-wait-flag .before .before in
+    let at-loop = at-loop-test .before in
+    wait-stops (settles (put-unfailing _ _ refl nothing-fails) (write-last here (at-write .write .ensures _ rx) refl)) _
+    (wait-step (at-busy-wait-flag .busy-wait-flag .ensures _ _ rx) _ (rewritten (next-byte _ refl _ _ (at-loop-test .loop-test .taken)) (at-loop .loop .inv .0 _ rx refl)) (at-w .w .given .1))
     (c .match2 .keys2)
 
 add-i : tie.Need-add-i Inv-loop μ-loop
@@ -62,9 +70,13 @@ add-i c = omega (arith, c .before .before .before .before .before .before .befor
 
 loop-again : tie.Need-loop-again Inv-loop μ-loop
 loop-again c =
-    let w = c .before .before .before .before .before .before .before .before .before in (
-      (λ s rx e. write-step (wait-step (w .before .before .before .before .busy-wait-flag .ensures s _ rx) _ (rewritten (next-byte s e _ _ (w .before .before .before .before .before .before .loop-test .taken)) (w .before .before .before .before .before .before .before .loop .inv .0 s rx e)) (w .w .given .1)) (c .before .before .before .before .before .write .ensures _ rx) refl (c .before .o .given .1)),
-      omega (arith, w .before .before .before .before .busy-wait-flag .kept, c .before .before .before .before .before .write .kept),
+    let at-write = c .before .before .before .before .before in
+    let at-w = at-write .before .before .before .before in
+    let at-busy-wait-flag = at-w .before .before .before .before in
+    let at-loop-test = at-busy-wait-flag .before .before in
+    let at-loop = at-loop-test .before in (
+      (λ s rx e. write-step (wait-step (at-busy-wait-flag .busy-wait-flag .ensures s _ rx) _ (rewritten (next-byte s e _ _ (at-loop-test .loop-test .taken)) (at-loop .loop .inv .0 s rx e)) (at-w .w .given .1)) (at-write .write .ensures _ rx) refl (c .before .o .given .1)),
+      omega (arith, at-busy-wait-flag .busy-wait-flag .kept, at-write .write .kept),
       omega arith,
     )
 

@@ -32,21 +32,33 @@ returns-2 c rx = call-stops (c .before .before .before .send-start-and-wait .ens
 
 returns-3 : tie.Need-returns-3
 returns-3 c rx =
-    let a = c .before .before .before .before .before .before in
-    call-stops (c .before .before .before .send-addr-and-wait .ensures rx) _ (call-step (a .before .before .before .before .send-start-and-wait .ensures rx) _ (rewritten (not-empty _ _ _ (a .before .before .before .before .before .before .if1 .left)) here) (a .a .given .1)) (c .match2 .keys2)
+    let at-send-addr-and-wait = c .before .before .before in
+    let at-a = at-send-addr-and-wait .before .before .before in
+    let at-send-start-and-wait = at-a .before .before .before .before in
+    let at-if1 = at-send-start-and-wait .before .before in
+    call-stops (at-send-addr-and-wait .send-addr-and-wait .ensures rx) _ (call-step (at-send-start-and-wait .send-start-and-wait .ensures rx) _ (rewritten (not-empty _ _ _ (at-if1 .if1 .left)) here) (at-a .a .given .1)) (c .match2 .keys2)
 
 returns-4 : tie.Need-returns-4
 returns-4 c rx =
-    let b = c .before .before .before .before .before .before in
-    let a = b .before .before .before .before .before .before .before in
-    wait-last (c .before .before .before .write-bytes-and-wait .ensures rx) (call-step (b .before .before .before .before .send-addr-and-wait .ensures rx) _ (call-step (a .before .before .before .before .send-start-and-wait .ensures rx) _ (rewritten (not-empty _ _ _ (a .before .before .before .before .before .before .if1 .left)) here) (a .a .given .1)) (b .b .given .1)) (c .match3 .keys2)
+    let at-write-bytes-and-wait = c .before .before .before in
+    let at-b = at-write-bytes-and-wait .before .before .before in
+    let at-send-addr-and-wait = at-b .before .before .before .before in
+    let at-a = at-send-addr-and-wait .before .before .before in
+    let at-send-start-and-wait = at-a .before .before .before .before in
+    let at-if1 = at-send-start-and-wait .before .before in
+    wait-last (at-write-bytes-and-wait .write-bytes-and-wait .ensures rx) (call-step (at-send-addr-and-wait .send-addr-and-wait .ensures rx) _ (call-step (at-send-start-and-wait .send-start-and-wait .ensures rx) _ (rewritten (not-empty _ _ _ (at-if1 .if1 .left)) here) (at-a .a .given .1)) (at-b .b .given .1)) (c .match3 .keys2)
 
 returns-5 : tie.Need-returns-5
 returns-5 c rx =
-    let w = c .before .before .before .before .before in
-    let b = w .before .before .before .before .before .before .before in
-    let a = b .before .before .before .before .before .before .before in
-    wait-handled (w .before .before .before .before .write-bytes-and-wait .ensures rx) (call-step (b .before .before .before .before .send-addr-and-wait .ensures rx) _ (call-step (a .before .before .before .before .send-start-and-wait .ensures rx) _ (rewritten (not-empty _ _ _ (a .before .before .before .before .before .before .if1 .left)) here) (a .a .given .1)) (b .b .given .1)) (w .w .given .1) (c .before .before .stop-for .ensures _ rx)
+    let at-stop-for = c .before .before in
+    let at-w = at-stop-for .before .before .before in
+    let at-write-bytes-and-wait = at-w .before .before .before .before in
+    let at-b = at-write-bytes-and-wait .before .before .before in
+    let at-send-addr-and-wait = at-b .before .before .before .before in
+    let at-a = at-send-addr-and-wait .before .before .before in
+    let at-send-start-and-wait = at-a .before .before .before .before in
+    let at-if1 = at-send-start-and-wait .before .before in
+    wait-handled (at-write-bytes-and-wait .write-bytes-and-wait .ensures rx) (call-step (at-send-addr-and-wait .send-addr-and-wait .ensures rx) _ (call-step (at-send-start-and-wait .send-start-and-wait .ensures rx) _ (rewritten (not-empty _ _ _ (at-if1 .if1 .left)) here) (at-a .a .given .1)) (at-b .b .given .1)) (at-w .w .given .1) (at-stop-for .stop-for .ensures _ rx)
 
 pub write-without-stop-spec : {M : Type 1} → statement M
 write-without-stop-spec =

@@ -9,13 +9,19 @@ returns c s rx = write-stops here (c .before .before .before .send-addr .ensures
 
 returns-2 : tie.Need-returns-2
 returns-2 c s rx =
-    let addr = c .before .before .before in
-    call-stops (addr .check-until .ensures s rx) _ (write-step here (addr .before .before .before .before .before .before .before .send-addr .ensures _ rx) refl (addr .before .before .before .a .given .1)) (c .match2 .keys2)
+    let at-check-until = c .before .before .before in
+    let at-a = at-check-until .before .before .before in
+    let at-send-addr = at-a .before .before .before .before in
+    call-stops (at-check-until .check-until .ensures s rx) _ (write-step here (at-send-addr .send-addr .ensures _ rx) refl (at-a .a .given .1)) (c .match2 .keys2)
 
 returns-3 : tie.Need-returns-3
 returns-3 c s rx =
-    let addr = c .before .before .before .before .before .before .before .before .before in
-    call-last (call-step (addr .check-until .ensures s rx) _ (write-step here (addr .before .before .before .before .before .before .before .send-addr .ensures _ rx) refl (addr .before .before .before .a .given .1)) (c .before .before .before .before .before .b .given .1)) (c .before .before .get .ensures s rx)
+    let at-get = c .before .before in
+    let at-b = at-get .before .before .before in
+    let at-check-until = at-b .before .before .before .before in
+    let at-a = at-check-until .before .before .before in
+    let at-send-addr = at-a .before .before .before .before in
+    call-last (call-step (at-check-until .check-until .ensures s rx) _ (write-step here (at-send-addr .send-addr .ensures _ rx) refl (at-a .a .given .1)) (at-b .b .given .1)) (at-get .get .ensures s rx)
 
 pub address-write-spec : {M : Type 1} → statement M
 address-write-spec =

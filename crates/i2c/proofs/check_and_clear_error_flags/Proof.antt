@@ -6,26 +6,41 @@ use Rattle.i2c.proofs.check_and_clear_error_flags.Statement.{statement}
 use Rattle.i2c.proofs.check_and_clear_error_flags.Tie as tie
 
 returns : tie.Need-returns
-returns c rx = check-none (c .before .before .before .read .ensures rx) (c .match .keys2)
+returns c rx = rw (c .checked-of .ensures) (check-none (c .before .before .before .before .before .read .ensures rx) (c .before .enum-told .given .1))
 
 returns-2 : tie.Need-returns-2
 returns-2 c rx =
-    let found = c .before .before .before .before .before .before .before .before in
+    let at-clear-flag = c .before .before .before in
+    let at-flagged = at-clear-flag .before .before .before in
+    let at-first-error = at-flagged .before .before in
+    let at-t = at-first-error .before .before in
+    let at-read = at-t .before .before .before .before in
     rw (c .failed-of .ensures)
-    (check-error (found .before .before .before .before .before .before .read .ensures rx) (found .before .before .c .given .1) (found .first-error .ensures) (c .before .before .before .before .before .before .flagged .given .1) (c .before .before .before .clear-flag .ensures _ rx))
+    (check-error (at-read .read .ensures rx) (at-t .t .given .1) (at-first-error .first-error .ensures) (at-flagged .flagged .given .1) (at-clear-flag .clear-flag .ensures _ rx))
 
 returns-3 : tie.Need-returns-3
 returns-3 c rx =
-    let found = c .before .before .before .before in
-    check-fine (found .before .before .before .before .before .before .read .ensures rx) (found .before .before .c .given .1) (found .first-error .ensures) (c .before .before .enum-told .given .1)
-    (sym (c .before .has .ensures) ∙ not-true _ (c .if1 .taken))
+    let at-has = c .before .before in
+    let at-enum-told2 = at-has .before in
+    let at-first-error = at-enum-told2 .before .before in
+    let at-t = at-first-error .before .before in
+    let at-read = at-t .before .before .before .before in
+    rw (c .checked-of2 .ensures)
+    (check-fine (at-read .read .ensures rx) (at-t .t .given .1) (at-first-error .first-error .ensures) (at-enum-told2 .enum-told2 .given .1)
+    (sym (at-has .has .ensures) ∙ not-true _ (c .before .if1 .taken)))
 
 returns-4 : tie.Need-returns-4
 returns-4 c rx =
-    let found = c .before .before .before .before .before .before .before .before .before in
+    let at-clear-flag2 = c .before .before .before in
+    let at-if1 = at-clear-flag2 .before .before in
+    let at-has = at-if1 .before in
+    let at-enum-told2 = at-has .before in
+    let at-first-error = at-enum-told2 .before .before in
+    let at-t = at-first-error .before .before in
+    let at-read = at-t .before .before .before .before in
     rw (c .word-of .ensures)
-    (check-spurious (found .before .before .before .before .before .before .read .ensures rx) (found .before .before .c .given .1) (found .first-error .ensures) (c .before .before .before .before .before .before .before .enum-told .given .1)
-    (sym (c .before .before .before .before .before .before .has .ensures) ∙ not-false _ (c .before .before .before .before .before .if1 .left)) (c .before .before .before .clear-flag2 .ensures _ rx))
+    (check-spurious (at-read .read .ensures rx) (at-t .t .given .1) (at-first-error .first-error .ensures) (at-enum-told2 .enum-told2 .given .1)
+    (sym (at-has .has .ensures) ∙ not-false _ (at-if1 .if1 .left)) (at-clear-flag2 .clear-flag2 .ensures _ rx))
 
 pub check-and-clear-error-flags-spec : {M : Type 1} → statement M
 check-and-clear-error-flags-spec =
@@ -33,6 +48,8 @@ check-and-clear-error-flags-spec =
     (tie.spec
     (λ c κs. search needs)
     (λ c. search needs)
+    (λ c. search needs)
+    (λ c κs. search needs)
     (λ c. search needs)
     returns
     (λ c κs. search needs)
@@ -42,6 +59,7 @@ check-and-clear-error-flags-spec =
     (λ c. search needs)
     returns-2
     (λ c. search needs)
+    (λ c κs. search needs)
     (λ c κs. search needs)
     (λ c. search needs)
     returns-3

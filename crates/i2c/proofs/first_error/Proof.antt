@@ -37,11 +37,13 @@ returns-4 c = rw (none1 (c .before .before .before .before .before .before), non
 
 returns-5 : tie.Need-returns-5
 unfolding check-word
-returns-5 c = rw (none1 (c .before .before .before .before .before .before .before .before), none2 (c .before .before .before .before .before .before), none3 (c .before .before .before .before), none4 (c .before .before), sym (c .before .has5 .ensures) ∙ c .if5 .taken)
+returns-5 c =
+    rw (none1 (c .before .before .before .before .before .before .before .before), none2 (c .before .before .before .before .before .before), none3 (c .before .before .before .before), none4 (c .before .before), sym (c .before .has5 .ensures) ∙ c .if5 .taken)
 
 returns-6 : tie.Need-returns-6
 unfolding check-word
-returns-6 c = rw (none1 (c .before .before .before .before .before .before .before .before), none2 (c .before .before .before .before .before .before), none3 (c .before .before .before .before), none4 (c .before .before), sym (c .before .has5 .ensures) ∙ c .if5 .left)
+returns-6 c =
+    rw (none1 (c .before .before .before .before .before .before .before .before), none2 (c .before .before .before .before .before .before), none3 (c .before .before .before .before), none4 (c .before .before), sym (c .before .has5 .ensures) ∙ c .if5 .left)
 
 pub first-error-spec : {M : Type 1} → statement M
 first-error-spec =

@@ -7,7 +7,11 @@ returns : tie.Need-returns
 returns c s rx = call-stops (c .before .before .before .request-read .ensures s rx) _ here (c .match .keys2)
 
 returns-2 : tie.Need-returns-2
-returns-2 c s rx = call-last (call-step (c .before .before .before .before .before .before .before .before .before .request-read .ensures s rx) _ here (c .before .before .before .before .before .a .given .1)) (c .before .before .address-read .ensures s rx)
+returns-2 c s rx =
+    let at-address-read = c .before .before in
+    let at-a = at-address-read .before .before .before in
+    let at-request-read = at-a .before .before .before .before in
+    call-last (call-step (at-request-read .request-read .ensures s rx) _ here (at-a .a .given .1)) (at-address-read .address-read .ensures s rx)
 
 pub prepare-read-spec : {M : Type 1} → statement M
 prepare-read-spec =

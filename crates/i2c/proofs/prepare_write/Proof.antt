@@ -7,7 +7,11 @@ returns : tie.Need-returns
 returns c s rx = call-stops (c .before .before .before .request-write .ensures s rx) _ here (c .match .keys2)
 
 returns-2 : tie.Need-returns-2
-returns-2 c s rx = call-last (call-step (c .before .before .before .before .before .before .before .before .before .request-write .ensures s rx) _ here (c .before .before .before .before .before .a .given .1)) (c .before .before .address-write .ensures s rx)
+returns-2 c s rx =
+    let at-address-write = c .before .before in
+    let at-a = at-address-write .before .before .before in
+    let at-request-write = at-a .before .before .before .before in
+    call-last (call-step (at-request-write .request-write .ensures s rx) _ here (at-a .a .given .1)) (at-address-write .address-write .ensures s rx)
 
 pub prepare-write-spec : {M : Type 1} → statement M
 prepare-write-spec =

@@ -42,16 +42,20 @@ recv-byte-requires c κs = c .before .before .before .loop .inv .3
 
 returns : tie.Need-returns Inv-loop μ-loop
 returns c s =
-    let came = c .before .before .before .before .before in
-    call-stops (came .recv-byte .ensures s) _ (rewritten (next-byte _ _ (came .before .before .before .loop-test .taken)) (came .before .before .before .before .loop .inv .0 s)) (c .match .keys2)
+    let at-recv-byte = c .before .before .before .before .before in
+    let at-loop-test = at-recv-byte .before .before .before in
+    let at-loop = at-loop-test .before in
+    call-stops (at-recv-byte .recv-byte .ensures s) _ (rewritten (next-byte _ _ (at-loop-test .loop-test .taken)) (at-loop .loop .inv .0 s)) (c .match .keys2)
 
 loop-again : tie.Need-loop-again Inv-loop μ-loop
 loop-again c =
-    let came = c .before .before .before .before .before .before .before in (
-      (λ s. call-step (came .recv-byte .ensures s) _ (rewritten (next-byte _ _ (came .before .before .before .loop-test .taken)) (came .before .before .before .before .loop .inv .0 s)) (c .before .o .given .1)),
-      omega (arith, came .recv-byte .kept),
-      omega (arith, came .recv-byte .kept),
-      keeps-fewer (came .recv-byte .ensures no-setup) (c .before .o .given .1) (came .before .before .before .before .loop .inv .3),
+    let at-recv-byte = c .before .before .before .before .before .before .before in
+    let at-loop-test = at-recv-byte .before .before .before in
+    let at-loop = at-loop-test .before in (
+      (λ s. call-step (at-recv-byte .recv-byte .ensures s) _ (rewritten (next-byte _ _ (at-loop-test .loop-test .taken)) (at-loop .loop .inv .0 s)) (c .before .o .given .1)),
+      omega (arith, at-recv-byte .recv-byte .kept),
+      omega (arith, at-recv-byte .recv-byte .kept),
+      keeps-fewer (at-recv-byte .recv-byte .ensures no-setup) (c .before .o .given .1) (at-loop .loop .inv .3),
     )
 
 returns-2 : tie.Need-returns-2 Inv-loop μ-loop

@@ -35,7 +35,11 @@ returns : tie.Need-returns
 returns c s = ends-failed (rewritten (none-early (c .before .before .before .before .args .early) (c .before .before .before .before .args .count) _ _ _ (c .if1 .taken)) here)
 
 returns-2 : tie.Need-returns-2
-returns-2 c s = let start = c .before .before .before .before .before .before .before .before .before in call-stops (c .before .before .before .turn-read .ensures s _) _ (rewritten (reads (start .args .early) (start .args .count) _ _ _ (c .before .before .before .before .before .if1 .left) refl) here) (c .match .keys2)
+returns-2 c s =
+    let at-turn-read = c .before .before .before in
+    let at-if1 = at-turn-read .before .before in
+    let at-start = at-if1 .before .before .before .before in
+    call-stops (at-turn-read .turn-read .ensures s _) _ (rewritten (reads (at-start .args .early) (at-start .args .count) _ _ _ (at-if1 .if1 .left) refl) here) (c .match .keys2)
 
 -- the turn keeps the bytes received at most the readings used
 turned : (c : tie.After-known-told) → c .before .a .given .0 .0 .got ≤ c .before .a .given .0 .0 .used
@@ -46,18 +50,26 @@ read-wo-prepare-requires c κs = turned (c .before .before .before)
 
 returns-3 : tie.Need-returns-3
 returns-3 c s =
-    let turn = c .before .before .before .before .before .before .before .before .before .before .before .before .before in
-    let start = turn .before .before .before .before .before .before in
-    call-last (call-step (turn .turn-read .ensures s _) _ (rewritten (reads (start .args .early) (start .args .count) _ _ _ (turn .before .before .if1 .left) (c .before .before .before .before .before .before .before .if2 .taken)) here) (c .before .before .before .before .before .before .before .before .before .a .given .1)) (c .before .before .before .before .read-wo-prepare .ensures s)
+    let at-read-wo-prepare = c .before .before .before .before in
+    let at-if2 = at-read-wo-prepare .before .before .before in
+    let at-a = at-if2 .before .before in
+    let at-turn-read = at-a .before .before .before .before in
+    let at-if1 = at-turn-read .before .before in
+    let at-start = at-if1 .before .before .before .before in
+    call-last (call-step (at-turn-read .turn-read .ensures s _) _ (rewritten (reads (at-start .args .early) (at-start .args .count) _ _ _ (at-if1 .if1 .left) (at-if2 .if2 .taken)) here) (at-a .a .given .1)) (at-read-wo-prepare .read-wo-prepare .ensures s)
 
 read-bytes-requires : tie.Need-read-bytes-requires
 read-bytes-requires c κs = turned (c .before .before .before)
 
 returns-4 : tie.Need-returns-4
 returns-4 c s =
-    let turn = c .before .before .before .before .before .before .before .before .before .before .before .before .before in
-    let start = turn .before .before .before .before .before .before in
-    call-last (call-step (turn .turn-read .ensures s _) _ (rewritten (reads (start .args .early) (start .args .count) _ _ _ (turn .before .before .if1 .left) (c .before .before .before .before .before .before .before .if2 .left)) here) (c .before .before .before .before .before .before .before .before .before .a .given .1)) (c .before .before .before .before .read-bytes .ensures s)
+    let at-read-bytes = c .before .before .before .before in
+    let at-if2 = at-read-bytes .before .before .before in
+    let at-a = at-if2 .before .before in
+    let at-turn-read = at-a .before .before .before .before in
+    let at-if1 = at-turn-read .before .before in
+    let at-start = at-if1 .before .before .before .before in
+    call-last (call-step (at-turn-read .turn-read .ensures s _) _ (rewritten (reads (at-start .args .early) (at-start .args .count) _ _ _ (at-if1 .if1 .left) (at-if2 .if2 .left)) here) (at-a .a .given .1)) (at-read-bytes .read-bytes .ensures s)
 
 pub read-operation-spec : {M : Type 1} → statement M
 read-operation-spec =

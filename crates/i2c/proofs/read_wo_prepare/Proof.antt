@@ -25,45 +25,63 @@ returns : tie.Need-returns
 returns c s = ends-failed (rewritten (no-byte _ (c .if1 .taken)) here)
 
 returns-2 : tie.Need-returns-2
-returns-2 c s = let bytes = c .before .before .before .before .before in call-stops (bytes .read-bytes .ensures s) _ (rewritten (some-byte _ (bytes .before .before .before .if1 .left)) here) (c .match .keys2)
+returns-2 c s =
+    let at-read-bytes = c .before .before .before .before .before in
+    let at-if1 = at-read-bytes .before .before .before in
+    call-stops (at-read-bytes .read-bytes .ensures s) _ (rewritten (some-byte _ (at-if1 .if1 .left)) here) (c .match .keys2)
 
 returns-3 : tie.Need-returns-3
 returns-3 c s =
-    let stop = c .before .before .before in
-    let bytes = stop .before .before .before .before .before .before .before .before .before in
-    call-stops (stop .modify-cr1 .ensures s _) _ (call-step (bytes .read-bytes .ensures s) _ (rewritten (some-byte _ (bytes .before .before .before .if1 .left)) here) (stop .before .before .before .a .given .1)) (c .match2 .keys2)
+    let at-modify-cr1 = c .before .before .before in
+    let at-a = at-modify-cr1 .before .before .before in
+    let at-read-bytes = at-a .before .before .before .before .before .before in
+    let at-if1 = at-read-bytes .before .before .before in
+    call-stops (at-modify-cr1 .modify-cr1 .ensures s _) _ (call-step (at-read-bytes .read-bytes .ensures s) _ (rewritten (some-byte _ (at-if1 .if1 .left)) here) (at-a .a .given .1)) (c .match2 .keys2)
 
 read-bytes-requires-2 : tie.Need-read-bytes-requires-2
 read-bytes-requires-2 c κs =
-    let stop = c .before .before .before .before .before .before .before in
-    let bytes = stop .before .before .before .before .before .before .before .before .before in
-    keeps-fewer (stop .modify-cr1 .ensures no-setup []) (c .before .before .before .b .given .1) (keeps-fewer (bytes .read-bytes .ensures no-setup) (stop .before .before .before .a .given .1) (bytes .before .before .before .before .before .before .before .pre))
+    let at-b = c .before .before .before in
+    let at-modify-cr1 = at-b .before .before .before .before in
+    let at-a = at-modify-cr1 .before .before .before in
+    let at-read-bytes = at-a .before .before .before .before .before .before in
+    let at-start = at-read-bytes .before .before .before .before .before .before .before in
+    keeps-fewer (at-modify-cr1 .modify-cr1 .ensures no-setup []) (at-b .b .given .1) (keeps-fewer (at-read-bytes .read-bytes .ensures no-setup) (at-a .a .given .1) (at-start .pre))
 
 returns-4 : tie.Need-returns-4
 returns-4 c s =
-    let byte = c .before .before .before .before .before in
-    let stop = byte .before .before .before .before .before .before .before .before in
-    let bytes = stop .before .before .before .before .before .before .before .before .before in
-    call-stops (byte .read-bytes2 .ensures s) _
-    (call-step (stop .modify-cr1 .ensures s _) _ (call-step (bytes .read-bytes .ensures s) _ (rewritten (some-byte _ (bytes .before .before .before .if1 .left)) here) (stop .before .before .before .a .given .1)) (byte .before .before .before .before .b .given .1))
+    let at-read-bytes2 = c .before .before .before .before .before in
+    let at-b = at-read-bytes2 .before .before .before .before in
+    let at-modify-cr1 = at-b .before .before .before .before in
+    let at-a = at-modify-cr1 .before .before .before in
+    let at-read-bytes = at-a .before .before .before .before .before .before in
+    let at-if1 = at-read-bytes .before .before .before in
+    call-stops (at-read-bytes2 .read-bytes2 .ensures s) _
+    (call-step (at-modify-cr1 .modify-cr1 .ensures s _) _ (call-step (at-read-bytes .read-bytes .ensures s) _ (rewritten (some-byte _ (at-if1 .if1 .left)) here) (at-a .a .given .1)) (at-b .b .given .1))
     (c .match3 .keys2)
 
 same-length-7 : tie.Need-same-length-7
 same-length-7 c =
-    let byte = c .before .before .before .before .before .before .before .before .before .before .before in
-    let stop = byte .before .before .before .before .before .before .before .before in
-    omega (arith, c .before .before .until-stop-clear .kept, byte .read-bytes2 .kept, stop .modify-cr1 .kept, stop .before .before .before .before .before .before .before .before .before .read-bytes .kept)
+    let at-until-stop-clear = c .before .before in
+    let at-read-bytes2 = at-until-stop-clear .before .before .before .before .before .before .before .before .before in
+    let at-modify-cr1 = at-read-bytes2 .before .before .before .before .before .before .before .before in
+    let at-read-bytes = at-modify-cr1 .before .before .before .before .before .before .before .before .before in
+    omega (arith, at-until-stop-clear .until-stop-clear .kept, at-read-bytes2 .read-bytes2 .kept, at-modify-cr1 .modify-cr1 .kept, at-read-bytes .read-bytes .kept)
 
 returns-5 : tie.Need-returns-5
 returns-5 c s =
-    let byte = c .before .before .before .before .before .before .before .before .before .before .before in
-    let stop = byte .before .before .before .before .before .before .before .before in
-    let bytes = stop .before .before .before .before .before .before .before .before .before in
+    let at-until-stop-clear = c .before .before in
+    let at-c = at-until-stop-clear .before .before .before in
+    let at-read-bytes2 = at-c .before .before .before .before .before .before in
+    let at-b = at-read-bytes2 .before .before .before .before in
+    let at-modify-cr1 = at-b .before .before .before .before in
+    let at-a = at-modify-cr1 .before .before .before in
+    let at-read-bytes = at-a .before .before .before .before .before .before in
+    let at-if1 = at-read-bytes .before .before .before in
     call-last
-    (call-step (byte .read-bytes2 .ensures s) _
-    (call-step (stop .modify-cr1 .ensures s _) _ (call-step (bytes .read-bytes .ensures s) _ (rewritten (some-byte _ (bytes .before .before .before .if1 .left)) here) (stop .before .before .before .a .given .1)) (byte .before .before .before .before .b .given .1))
-    (c .before .before .before .before .before .c .given .1))
-    (c .before .before .until-stop-clear .ensures s _)
+    (call-step (at-read-bytes2 .read-bytes2 .ensures s) _
+    (call-step (at-modify-cr1 .modify-cr1 .ensures s _) _ (call-step (at-read-bytes .read-bytes .ensures s) _ (rewritten (some-byte _ (at-if1 .if1 .left)) here) (at-a .a .given .1)) (at-b .b .given .1))
+    (at-c .c .given .1))
+    (at-until-stop-clear .until-stop-clear .ensures s _)
 
 pub read-wo-prepare-spec : {M : Type 1} → statement M
 read-wo-prepare-spec =

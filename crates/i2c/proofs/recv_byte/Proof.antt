@@ -8,12 +8,18 @@ returns : tie.Need-returns
 returns c s = call-stops (c .before .before .before .check-twice .ensures s _) _ here (c .match .keys2)
 
 read-data-requires : tie.Need-read-data-requires
-read-data-requires c κs = keeps-fewer (c .before .before .before .before .before .before .before .check-twice .ensures no-setup []) (c .before .before .before .a .given .1) (c .before .before .before .before .before .before .before .before .before .before .before .before .pre)
+read-data-requires c κs =
+    let at-a = c .before .before .before in
+    let at-check-twice = at-a .before .before .before .before in
+    let at-start = at-check-twice .before .before .before .before .before in
+    keeps-fewer (at-check-twice .check-twice .ensures no-setup []) (at-a .a .given .1) (at-start .pre)
 
 returns-2 : tie.Need-returns-2
 returns-2 c s =
-    let read = c .before .before .before .before in
-    call-last (call-step (read .before .before .before .before .before .before .before .before .check-twice .ensures s _) _ here (read .before .before .before .before .a .given .1)) (read .read-data .ensures s)
+    let at-read-data = c .before .before .before .before in
+    let at-a = at-read-data .before .before .before .before in
+    let at-check-twice = at-a .before .before .before .before in
+    call-last (call-step (at-check-twice .check-twice .ensures s _) _ here (at-a .a .given .1)) (at-read-data .read-data .ensures s)
 
 pub recv-byte-spec : {M : Type 1} → statement M
 recv-byte-spec =

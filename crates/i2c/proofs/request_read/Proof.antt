@@ -8,26 +8,36 @@ returns c s rx = call-stops (c .before .before .before .until-stop-clear .ensure
 
 returns-2 : tie.Need-returns-2
 returns-2 c s rx =
-    let start = c .before .before .before in
-    call-stops (start .request-start .ensures s rx) _ (call-step (start .before .before .before .before .before .before .before .until-stop-clear .ensures s rx) _ here (start .before .before .before .a .given .1)) (c .match2 .keys2)
+    let at-request-start = c .before .before .before in
+    let at-a = at-request-start .before .before .before in
+    let at-until-stop-clear = at-a .before .before .before .before in
+    call-stops (at-request-start .request-start .ensures s rx) _ (call-step (at-until-stop-clear .until-stop-clear .ensures s rx) _ here (at-a .a .given .1)) (c .match2 .keys2)
 
 returns-3 : tie.Need-returns-3
 returns-3 c s rx =
-    let sb = c .before .before .before in
-    let start = sb .before .before .before .before .before .before .before in
-    call-stops (sb .until-flag .ensures s rx) _
-    (call-step (start .request-start .ensures s rx) _ (call-step (start .before .before .before .before .before .before .before .until-stop-clear .ensures s rx) _ here (start .before .before .before .a .given .1)) (sb .before .before .before .b .given .1))
+    let at-until-flag = c .before .before .before in
+    let at-b = at-until-flag .before .before .before in
+    let at-request-start = at-b .before .before .before .before in
+    let at-a = at-request-start .before .before .before in
+    let at-until-stop-clear = at-a .before .before .before .before in
+    call-stops (at-until-flag .until-flag .ensures s rx) _
+    (call-step (at-request-start .request-start .ensures s rx) _ (call-step (at-until-stop-clear .until-stop-clear .ensures s rx) _ here (at-a .a .given .1)) (at-b .b .given .1))
     (c .match3 .keys2)
 
 returns-4 : tie.Need-returns-4
 returns-4 c s rx =
-    let sb = c .before .before .before .before .before .before .before .before .before in
-    let start = sb .before .before .before .before .before .before .before in
+    let at-until-master = c .before .before in
+    let at-c = at-until-master .before .before .before in
+    let at-until-flag = at-c .before .before .before .before in
+    let at-b = at-until-flag .before .before .before in
+    let at-request-start = at-b .before .before .before .before in
+    let at-a = at-request-start .before .before .before in
+    let at-until-stop-clear = at-a .before .before .before .before in
     call-last
-    (call-step (sb .until-flag .ensures s rx) _
-    (call-step (start .request-start .ensures s rx) _ (call-step (start .before .before .before .before .before .before .before .until-stop-clear .ensures s rx) _ here (start .before .before .before .a .given .1)) (sb .before .before .before .b .given .1))
-    (c .before .before .before .before .before .c .given .1))
-    (c .before .before .until-master .ensures s rx)
+    (call-step (at-until-flag .until-flag .ensures s rx) _
+    (call-step (at-request-start .request-start .ensures s rx) _ (call-step (at-until-stop-clear .until-stop-clear .ensures s rx) _ here (at-a .a .given .1)) (at-b .b .given .1))
+    (at-c .c .given .1))
+    (at-until-master .until-master .ensures s rx)
 
 pub request-read-spec : {M : Type 1} → statement M
 request-read-spec =

@@ -8,10 +8,20 @@ returns : tie.Need-returns
 returns c rx = write-stops here (c .before .before .before .write .ensures _ rx) refl (c .match .keys2)
 
 returns-2 : tie.Need-returns-2
-returns-2 c rx = write-stops (write-step here (c .before .before .before .before .before .before .before .before .before .before .write .ensures _ rx) refl (c .before .before .before .before .before .before .a .given .1)) (c .before .before .before .write2 .ensures _ rx) refl (c .match2 .keys2)
+returns-2 c rx =
+    let at-write2 = c .before .before .before in
+    let at-a = at-write2 .before .before .before in
+    let at-write = at-a .before .before .before .before in
+    write-stops (write-step here (at-write .write .ensures _ rx) refl (at-a .a .given .1)) (at-write2 .write2 .ensures _ rx) refl (c .match2 .keys2)
 
 returns-3 : tie.Need-returns-3
-returns-3 c rx = call-last (write-step (write-step here (c .before .before .before .before .before .before .before .before .before .before .before .before .before .before .before .before .write .ensures _ rx) refl (c .before .before .before .before .before .before .before .before .before .before .before .before .a .given .1)) (c .before .before .before .before .before .before .before .before .before .write2 .ensures _ rx) refl (c .before .before .before .before .before .b .given .1)) (c .before .before .init .ensures rx)
+returns-3 c rx =
+    let at-init = c .before .before in
+    let at-b = at-init .before .before .before in
+    let at-write2 = at-b .before .before .before .before in
+    let at-a = at-write2 .before .before .before in
+    let at-write = at-a .before .before .before .before in
+    call-last (write-step (write-step here (at-write .write .ensures _ rx) refl (at-a .a .given .1)) (at-write2 .write2 .ensures _ rx) refl (at-b .b .given .1)) (at-init .init .ensures rx)
 
 pub reset-spec : {M : Type 1} → statement M
 reset-spec =

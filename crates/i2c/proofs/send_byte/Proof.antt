@@ -9,14 +9,21 @@ returns c s rx = call-stops (c .before .before .before .check-until .ensures s r
 
 returns-2 : tie.Need-returns-2
 returns-2 c s rx =
-    write-stops (call-step (c .before .before .before .before .before .before .before .before .before .before .check-until .ensures s rx) _ here (c .before .before .before .before .before .before .a .given .1)) (c .before .before .before .write .ensures _ rx) refl (c .match2 .keys2)
+    let at-write = c .before .before .before in
+    let at-a = at-write .before .before .before in
+    let at-check-until = at-a .before .before .before .before in
+    write-stops (call-step (at-check-until .check-until .ensures s rx) _ here (at-a .a .given .1)) (at-write .write .ensures _ rx) refl (c .match2 .keys2)
 
 returns-3 : tie.Need-returns-3
 returns-3 c s rx =
-    let write = c .before .before .before .before .before .before .before .before .before in
+    let at-check-until2 = c .before .before in
+    let at-b = at-check-until2 .before .before .before in
+    let at-write = at-b .before .before .before .before in
+    let at-a = at-write .before .before .before in
+    let at-check-until = at-a .before .before .before .before in
     call-last
-    (write-step (call-step (write .before .before .before .before .before .before .before .check-until .ensures s rx) _ here (write .before .before .before .a .given .1)) (write .write .ensures _ rx) refl (c .before .before .before .before .before .b .given .1))
-    (c .before .before .check-until2 .ensures s rx)
+    (write-step (call-step (at-check-until .check-until .ensures s rx) _ here (at-a .a .given .1)) (at-write .write .ensures _ rx) refl (at-b .b .given .1))
+    (at-check-until2 .check-until2 .ensures s rx)
 
 pub send-byte-spec : {M : Type 1} → statement M
 send-byte-spec =

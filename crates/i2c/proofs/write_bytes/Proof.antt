@@ -40,14 +40,18 @@ cast-send-byte c = omega (arith, c .shared-slice-known3 .given (c .before .befor
 
 returns : tie.Need-returns Inv-loop μ-loop
 returns c s rx =
-    let sent = c .before .before .before in
-    call-stops (sent .send-byte .ensures s rx) _ (rewritten (next-byte _ _ (sent .before .before .before .loop-test .taken)) (sent .before .before .before .before .loop .inv .0 s rx)) (c .match .keys2)
+    let at-send-byte = c .before .before .before in
+    let at-loop-test = at-send-byte .before .before .before in
+    let at-loop = at-loop-test .before in
+    call-stops (at-send-byte .send-byte .ensures s rx) _ (rewritten (next-byte _ _ (at-loop-test .loop-test .taken)) (at-loop .loop .inv .0 s rx)) (c .match .keys2)
 
 loop-again : tie.Need-loop-again Inv-loop μ-loop
 loop-again c =
-    let sent = c .before .before .before .before .before in (
-      (λ s rx. call-step (sent .send-byte .ensures s rx) _ (rewritten (next-byte _ _ (sent .before .before .before .loop-test .taken)) (sent .before .before .before .before .loop .inv .0 s rx)) (c .before .o .given .1)),
-      omega (arith, sent .send-byte .kept),
+    let at-send-byte = c .before .before .before .before .before in
+    let at-loop-test = at-send-byte .before .before .before in
+    let at-loop = at-loop-test .before in (
+      (λ s rx. call-step (at-send-byte .send-byte .ensures s rx) _ (rewritten (next-byte _ _ (at-loop-test .loop-test .taken)) (at-loop .loop .inv .0 s rx)) (c .before .o .given .1)),
+      omega (arith, at-send-byte .send-byte .kept),
       omega arith,
     )
 

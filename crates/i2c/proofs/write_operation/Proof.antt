@@ -22,10 +22,20 @@ returns : tie.Need-returns
 returns c early s rx = call-stops (c .before .before .before .turn-write .ensures s rx) _ (rewritten (writes early _ _ _ _ refl) here) (c .match .keys2)
 
 returns-2 : tie.Need-returns-2
-returns-2 c early s rx = call-last (call-step (c .before .before .before .before .before .before .before .before .before .before .turn-write .ensures s rx) _ (rewritten (writes early _ _ _ _ (c .before .before .before .before .if1 .taken)) here) (c .before .before .before .before .before .before .a .given .1)) (c .before .before .write-wo-prepare .ensures s rx)
+returns-2 c early s rx =
+    let at-write-wo-prepare = c .before .before in
+    let at-if1 = at-write-wo-prepare .before .before in
+    let at-a = at-if1 .before .before in
+    let at-turn-write = at-a .before .before .before .before in
+    call-last (call-step (at-turn-write .turn-write .ensures s rx) _ (rewritten (writes early _ _ _ _ (at-if1 .if1 .taken)) here) (at-a .a .given .1)) (at-write-wo-prepare .write-wo-prepare .ensures s rx)
 
 returns-3 : tie.Need-returns-3
-returns-3 c early s rx = call-last (call-step (c .before .before .before .before .before .before .before .before .before .before .turn-write .ensures s rx) _ (rewritten (writes early _ _ _ _ (c .before .before .before .before .if1 .left)) here) (c .before .before .before .before .before .before .a .given .1)) (c .before .before .write-bytes .ensures s rx)
+returns-3 c early s rx =
+    let at-write-bytes = c .before .before in
+    let at-if1 = at-write-bytes .before .before in
+    let at-a = at-if1 .before .before in
+    let at-turn-write = at-a .before .before .before .before in
+    call-last (call-step (at-turn-write .turn-write .ensures s rx) _ (rewritten (writes early _ _ _ _ (at-if1 .if1 .left)) here) (at-a .a .given .1)) (at-write-bytes .write-bytes .ensures s rx)
 
 pub write-operation-spec : {M : Type 1} → statement M
 write-operation-spec =

@@ -8,13 +8,19 @@ returns c s rx = call-stops (c .before .before .before .write-bytes .ensures s r
 
 returns-2 : tie.Need-returns-2
 returns-2 c s rx =
-    let stop = c .before .before .before in
-    call-stops (stop .send-stop .ensures s rx) _ (call-step (stop .before .before .before .before .before .before .before .write-bytes .ensures s rx) _ here (stop .before .before .before .a .given .1)) (c .match2 .keys2)
+    let at-send-stop = c .before .before .before in
+    let at-a = at-send-stop .before .before .before in
+    let at-write-bytes = at-a .before .before .before .before in
+    call-stops (at-send-stop .send-stop .ensures s rx) _ (call-step (at-write-bytes .write-bytes .ensures s rx) _ here (at-a .a .given .1)) (c .match2 .keys2)
 
 returns-3 : tie.Need-returns-3
 returns-3 c s rx =
-    let stop = c .before .before .before .before .before .before .before .before .before in
-    call-last (call-step (stop .send-stop .ensures s rx) _ (call-step (stop .before .before .before .before .before .before .before .write-bytes .ensures s rx) _ here (stop .before .before .before .a .given .1)) (c .before .before .before .before .before .b .given .1)) (c .before .before .until-stop-clear .ensures s rx)
+    let at-until-stop-clear = c .before .before in
+    let at-b = at-until-stop-clear .before .before .before in
+    let at-send-stop = at-b .before .before .before .before in
+    let at-a = at-send-stop .before .before .before in
+    let at-write-bytes = at-a .before .before .before .before in
+    call-last (call-step (at-send-stop .send-stop .ensures s rx) _ (call-step (at-write-bytes .write-bytes .ensures s rx) _ here (at-a .a .given .1)) (at-b .b .given .1)) (at-until-stop-clear .until-stop-clear .ensures s rx)
 
 pub write-wo-prepare-spec : {M : Type 1} → statement M
 write-wo-prepare-spec =

@@ -16,19 +16,20 @@ unfolding next
 altered-is s on off v w e = rw e
 
 returns : tie.Need-returns
-returns c s rx = rw (c .outcome-of .ensures) (read-stops here (c .before .before .before .before .read .ensures rx) refl refl (c .before .match .keys2))
+returns c s rx = rw (c .outcome-of .ensures) (read-stops here (c .before .before .before .before .before .read .ensures rx) refl refl (c .before .enum-told .given .1))
 
 altered-requires : tie.Need-altered-requires
-altered-requires c κs = (read-small (c .before .before .before .before .before .before .read .ensures []) refl (c .before .before .c .given .1), c .before .before .before .before .before .before .before .before .before .before .pre .0, c .before .before .before .before .before .before .before .before .before .before .pre .1)
+altered-requires c κs = (read-small (c .before .before .before .before .before .before .read .ensures []) refl (c .before .before .t .given .1), c .before .before .before .before .before .before .before .before .before .before .pre .0, c .before .before .before .before .before .before .before .before .before .before .pre .1)
 
 returns-2 : tie.Need-returns-2
-returns-2 c s rx = write-last (read-step here (c .before .before .before .before .before .before .before .before .before .before .read .ensures rx) refl refl refl (c .before .before .before .before .before .before .c .given .1) (altered-is s _ _ _ _ (c .before .before .before .altered .ensures))) (c .before .before .write .ensures _ rx) refl
+returns-2 c s rx = write-last (read-step here (c .before .before .before .before .before .before .before .before .before .before .read .ensures rx) refl refl refl (c .before .before .before .before .before .before .t .given .1) (altered-is s _ _ _ _ (c .before .before .before .altered .ensures))) (c .before .before .write .ensures _ rx) refl
 
 pub modify-cr1-spec : {M : Type 1} → statement M
 modify-cr1-spec =
     tie.close
     (tie.spec
     (λ c κs. search needs)
+    (λ c. search needs)
     (λ c. search needs)
     (λ c κs. search needs)
     (λ c. search needs)

@@ -3,13 +3,10 @@ use Rattle.registers.proofs.outcome_of.Statement.{statement}
 use Rattle.registers.proofs.outcome_of.Tie as tie
 
 returns : tie.Need-returns
-returns c = rw (c .before .c .given .1)
+returns c = rw (c .before .t .given .1)
 
 returns-2 : tie.Need-returns-2
-returns-2 c = rw (c .before .c2 .given .1)
-
-returns-3 : tie.Need-returns-3
-returns-3 c = rw (c .before .c3 .given .1)
+returns-2 c = rw (c .before .t2 .given .1)
 
 pub outcome-of-spec : {M : Type 1} → statement M
 outcome-of-spec =
@@ -17,7 +14,5 @@ outcome-of-spec =
     (tie.spec
     (λ c. search needs)
     (λ c. search needs)
-    (λ c. search needs)
     returns
-    returns-2
-    returns-3)
+    returns-2)

@@ -16,8 +16,8 @@ returns-2 c rx = record { is = sym (read-empty _ _ _ _ _ (leb-false _ _ (sym (c 
 put-entry-requires : tie.Need-put-entry-requires
 put-entry-requires c κs = leb-false _ _ (sym (c .before .before .before .before .before .full .ensures) ∙ c .before .before .before .before .if1 .left)
 
-add-t21 : tie.Need-add-t21
-add-t21 c = let e = sym (c .before .before .before .before .before .before .before .before .full .ensures) ∙ c .before .before .before .before .before .before .before .if1 .left in omega (arith, leb-false)
+add-t22 : tie.Need-add-t22
+add-t22 c = let e = sym (c .before .before .before .before .before .before .before .before .full .ensures) ∙ c .before .before .before .before .before .before .before .if1 .left in omega (arith, leb-false)
 
 returns-3 : tie.Need-returns-3
 returns-3 c rx = record { is = read-done _ _ _ _ _ _ _ (c .before .before .before .before .before .before .before .before .before .before .before .before .pre) (leb-false _ _ (sym (c .before .before .before .before .before .before .before .before .full .ensures) ∙ c .before .before .before .before .before .before .before .if1 .left)) (c .before .before .before .before .before .before .if2 .left) (⊎-elim (λ w. w .1 ∙ cut-register _ _ (w .0 .taken)) (λ w. w .1 ∙ cut-cycles _ _ (w .0 .left) (c .before .before .before .before .before .shared-slice-known2 .given _ .fits)) (c .before .before .before .before .if3 .came)) (c .before .before .put-entry .ensures) }
@@ -35,6 +35,6 @@ read-spec =
     (λ c. search needs)
     put-entry-requires
     (λ c. search needs)
-    add-t21
+    add-t22
     (λ c. search needs)
     returns-3)

@@ -12,8 +12,8 @@ returns c rs rx = record { is = sym (write-full _ _ _ _ _ _ (leb-true _ _ (sym (
 put-entry-requires : tie.Need-put-entry-requires
 put-entry-requires c κs = leb-false _ _ (sym (c .before .before .full .ensures) ∙ c .before .if1 .left)
 
-add-t14 : tie.Need-add-t14
-add-t14 c = let e = sym (c .before .before .before .before .before .full .ensures) ∙ c .before .before .before .before .if1 .left in omega (arith, leb-false)
+add-t15 : tie.Need-add-t15
+add-t15 c = let e = sym (c .before .before .before .before .before .full .ensures) ∙ c .before .before .before .before .if1 .left in omega (arith, leb-false)
 
 returns-2 : tie.Need-returns-2
 returns-2 c rs rx = record { is = write-done _ _ _ _ _ _ _ (c .before .before .before .before .before .before .before .before .pre) (leb-false _ _ (sym (c .before .before .before .before .before .full .ensures) ∙ c .before .before .before .before .if1 .left)) (c .before .before .put-entry .ensures) }
@@ -26,6 +26,6 @@ write-spec =
     (λ c. search needs)
     returns
     put-entry-requires
-    add-t14
+    add-t15
     (λ c. search needs)
     returns-2)
