@@ -3,19 +3,16 @@
 use Prim.Native.Nat.{ℕ}
 use native.Mathlib.Omega.{arith}
 use mathlib.Core.Path.{_≡_, refl, ap₂}
-use mathlib.Core.List.{List, [], _∷_, map}
-use Rattle.units.specs.declared.Settings.{Settings}
+use mathlib.Core.List.{List, [], _∷_}
 use Rattle.units.specs.Setup.{setup-of}
 use Rattle.buslist.specs.Table.{settings-of}
-use Rattle.buslist.specs.Meaning.{Call, calls-of}
+use Rattle.buslist.specs.Meaning.{calls-of}
 use Rattle.registers.specs.declared.Entry.{Entry}
 use Rattle.registers.specs.Access.{entries-in, record-of}
-use Rattle.registers.specs.Machine.{Run, whole-run}
-use Rattle.engine.specs.Calls.{steps-of}
-use Rattle.engine.specs.Run.{accepted-run, result, run}
-use Rattle.engine.specs.Compare.{idle, polls-empty-read, settings-words, Accepted, Demand3}
+use Rattle.engine.specs.Run.{result}
+use Rattle.engine.specs.Compare.{idle, polls-empty-read, settings-words, Demand3}
+use Rattle.engine.proofs.Result.{accepted-is}
 use Rattle.engine.proofs.Same.{same-steps}
-use Rattle.engine.proofs.Whole.{answer-well}
 use Rattle.engine.proofs.Reduced.{told-apart}
 use Rattle.engine.proofs.Listed.{of-kind, each-fails, sound}
 
@@ -36,32 +33,22 @@ same-settings : (l m : List ℕ) → settings-words l ≡ settings-words m → s
 unfolding settings-of
 same-settings l m e = cc
 
--- the run of calls with settings
-abbrev run-of-calls : Settings → List Call → ℕ → List ℕ → Run
-run-of-calls settings calls words readings = whole-run (setup-of settings) (map (steps-of (setup-of settings)) calls) (entries-in words) readings
-
--- an accepted list is run, with settings that are its own
-accepted : (l readings : List ℕ) (rx words : ℕ) → Accepted l rx → {settings : Settings} → settings-of l ≡ settings
-    → run l readings rx words ≡ result 0 (run-of-calls settings (calls-of l) words readings)
-unfolding run accepted-run
-accepted l readings rx words ok same = rw (ok, same)
-
 pub demand-3 : Demand3
 unfolding result
 demand-3 =
     record {
       told-apart = λ l m c readings readings′ rx rx′ words words′ ok ok′ ends ends′ same.
           let s = same-settings l m (c .settings) in
-          let r = accepted l readings rx words ok s in
-          let r′ = accepted m readings′ rx′ words′ ok′ refl in
+          let r = accepted-is l readings rx words ok s in
+          let r′ = accepted-is m readings′ rx′ words′ ok′ refl in
           told-apart (setup-of (settings-of m)) (calls-of l) (calls-of m) (of-kind l rx ok) (of-kind m rx′ ok′)
           (each-fails idle (calls-of l) (c .busy)) (each-fails idle (calls-of m) (c .busy′))
           (entries-in words) (entries-in words′) readings readings′
-          (answer-well _ (rw r at ends)) (answer-well _ (rw r′ at ends′)) (record-injective _ _ (rw (r, r′) at same));
+          (rw r at ends) (rw r′ at ends′) (record-injective _ _ (rw (r, r′) at same));
       same-run = λ l m c same full full′ readings rx words ok ok′.
           let s = same-settings l m (c .settings) in
           let hl = sound (of-kind l rx ok) (each-fails polls-empty-read (calls-of l) full) in
           let hm = sound (of-kind m rx ok′) (each-fails polls-empty-read (calls-of m) full′) in
-          rw (accepted l readings rx words ok s, accepted m readings rx words ok′ refl, same-steps (setup-of (settings-of m)) hl hm same)
+          rw (accepted-is l readings rx words ok s, accepted-is m readings rx words ok′ refl, same-steps (setup-of (settings-of m)) hl hm same)
           (record { counts = refl; record-words = refl; received-bytes = refl });
     }

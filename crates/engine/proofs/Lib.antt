@@ -1,5 +1,6 @@
 pub mod RunLaws
 pub mod Plan
+pub mod Goes
 pub mod Received
 pub mod Result
 pub mod CallLaws
@@ -8,9 +9,9 @@ pub mod Shape
 pub mod Same
 pub mod Trace
 pub mod Apart
-pub mod Whole
 pub mod Reduced
 pub mod Listed
 pub mod Demand3
+pub mod Corollaries
 pub mod Witness
 pub mod Pass

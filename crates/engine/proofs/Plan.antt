@@ -278,8 +278,3 @@ module _ (P G : ℕ → ℕ) (w : Weights P G) where
   pub bring-up-none : (s : Setup) → total (bring-up s) ≡ 0
   unfolding total
   bring-up-none s = omega arith
-
-  -- calls together
-  unfoldable pub together : List (List Step) → ℕ
-  together [] = 0
-  together (c ∷ cs) = total c + together cs

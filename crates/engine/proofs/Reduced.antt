@@ -4,20 +4,20 @@ use Prim.Native.Nat.{ℕ, zero, suc, _+_}
 use native.Mathlib.Omega.{arith}
 use mathlib.Core.Bool.{Bool, false}
 use mathlib.Core.Path.{_≡_, refl, ap₂}
-use mathlib.Core.List.{List, [], _∷_, _++_, map, append-assoc}
+use mathlib.Core.List.{List, [], _∷_, _++_, map, flatten, append-assoc}
 use Rattle.units.specs.declared.Setup.{Setup}
 use Rattle.buslist.specs.Meaning.{Operation, write, read, Call}
-use Rattle.registers.specs.Access.{CR1}
-use Rattle.registers.specs.Machine.{Step, bring-up, whole-run}
+use Rattle.registers.specs.Access.{CR1, number}
+use Rattle.registers.specs.Machine.{Step, bring-up, flat, whole-run}
 use Rattle.i2c.specs.declared.Previous.{Previous}
 use Rattle.i2c.specs.Polling.{last-read, turn-write, turn-read, turn, transfer, operation-steps, direction, polling-steps}
 use Rattle.engine.specs.Calls.{Engine, polling, blocking, engine-of, early, operations-steps, steps-of}
 use Rattle.engine.specs.Compare.{Reduced, gather, joined, dropped, reduced-operations, reduced, idle, ends-empty}
 use Rattle.engine.proofs.Shape.{All, none, more, Fails, Shaped, polling-write, polling-read, polling-write-read, transaction, blocking-write, blocking-read, blocking-write-read, Full, FullIn, Sound, longer, rewritten}
 use Rattle.engine.proofs.Same.{reduced-steps, reduces-all}
-use Rattle.engine.proofs.Trace.{Both, first, make, weaken, pair, apart, flip, prefix, failing}
+use Rattle.engine.proofs.Trace.{goes-trace, Both, first, make, weaken, pair, apart, flip, prefix, failing}
 use Rattle.engine.proofs.Apart.{Turns, PollingForm, same-polling, Tail, Halves, opens-half, not-none, not-control, same-blocking}
-use Rattle.engine.proofs.Whole.{flat, Well, whole-trace}
+use Rattle.engine.proofs.Goes.{whole-goes}
 
 -- what the operations of a reduced call are
 abbrev Form : Engine → List Operation → Type 0
@@ -51,8 +51,8 @@ makes-access {s} blocking a os q h = apart (not-none (opens-half s a Previous.No
 
 -- reduced calls with a common trace are equal
 same-reduced : (s : Setup) {rs ts : List Reduced} → All Formed rs → All Formed ts
-    → Both s (rs ≡ ts) (flat (map (reduced-steps s) rs)) (flat (map (reduced-steps s) ts))
-unfolding reduced-steps
+    → Both s (rs ≡ ts) (flatten (map (reduced-steps s) rs)) (flatten (map (reduced-steps s) ts))
+unfolding reduced-steps flatten
 same-reduced s none none = make (λ l g h. refl)
 same-reduced s none (more {a = t} h hs) = makes-access (t .engine) (t .address) (t .operations) _ h
 same-reduced s (more {a = r} h hs) none = flip (makes-access (r .engine) (r .address) (r .operations) _ h)
@@ -84,8 +84,8 @@ abbrev pub OfKind : Call → Type 0
 OfKind c = Shaped (c .kind) (c .operations)
 
 -- calls with a trace are sound
-all-sound : (s : Setup) {cs : List Call} → All OfKind cs → Both s (All Sound cs) (flat (map (steps-of s) cs)) (flat (map (steps-of s) cs))
-unfolding steps-of
+all-sound : (s : Setup) {cs : List Call} → All OfKind cs → Both s (All Sound cs) (flatten (map (steps-of s) cs)) (flatten (map (steps-of s) cs))
+unfolding steps-of flatten
 all-sound s none = make (λ l g h. none)
 all-sound s (more {a = c} {rest = cs} h hs) =
     weaken (λ fs. more (record { shaped = h; full = fs .0 }) (fs .1))
@@ -146,16 +146,15 @@ formed (more {a = c} h hs) (more b bs) = more (formed-by (c .address) (h .shaped
 
 module _ (s : Setup) (cs ds : List Call) (kc : All OfKind cs) (kd : All OfKind ds) (bc : All Busy cs) (bd : All Busy ds) where
   -- calls with a common trace have equal reduced calls
-  common-trace : Both s (map reduced cs ≡ map reduced ds) (flat (map (steps-of s) cs)) (flat (map (steps-of s) ds))
+  common-trace : Both s (map reduced cs ≡ map reduced ds) (flatten (map (steps-of s) cs)) (flatten (map (steps-of s) ds))
   common-trace = make (λ l g h.
       let sc : All Sound cs = all-sound s kc .at l .so g g in
       let sd : All Sound ds = all-sound s kd .at l .so h h in
       same-reduced s (formed sc bc) (formed sd bd) .at l .so (rw (reduces-all s sc) at g) (rw (reduces-all s sd) at h))
 
   -- two whole runs that end well with one log have equal reduced calls
-  pub told-apart : (room room′ : ℕ) (rs rs′ : List ℕ)
-      → Well (whole-run s (map (steps-of s) cs) room rs .ending) → Well (whole-run s (map (steps-of s) ds) room′ rs′ .ending)
-      → whole-run s (map (steps-of s) cs) room rs .log ≡ whole-run s (map (steps-of s) ds) room′ rs′ .log
-      → map reduced cs ≡ map reduced ds
+  pub told-apart : (room room′ : ℕ) (rs rs′ : List ℕ) →
+      let r = whole-run s (map (steps-of s) cs) room rs in let r′ = whole-run s (map (steps-of s) ds) room′ rs′ in
+      number (r .ending) ≡ 0 → number (r′ .ending) ≡ 0 → flat (r .log) ≡ flat (r′ .log) → map reduced cs ≡ map reduced ds
   told-apart room room′ rs rs′ zc zd same =
-      prefix (bring-up s) common-trace .at _ .so (rw same at (whole-trace s _ room rs zc)) (whole-trace s _ room′ rs′ zd)
+      prefix (bring-up s) common-trace .at _ .so (rw same at (goes-trace (whole-goes s cs room rs) zc)) (goes-trace (whole-goes s ds room′ rs′) zd)

@@ -1,19 +1,19 @@
 -- A run's states and its log: the run that the machine makes, on the caller's buffers.
 -- Assumes nothing.
-use Prim.Native.Nat.{ℕ, zero, suc, _+_, _-_, _*_, _≤_}
+use Prim.Native.Nat.{ℕ, suc, _+_, _-_, _≤_}
 use native.Mathlib.Omega.{arith}
-use native.Mathlib.Numerals.{add-one}
+use native.Mathlib.Numerals.{one-add, add-one}
 use native.Mathlib.Nat.{add-zero, zero-add}
 use mathlib.Core.Bool.{Bool, true, false, cond}
 use mathlib.Core.Path.{_≡_, refl, sym, _∙_}
-use mathlib.Core.List.{List, [], _∷_, _++_}
-use lib.ListN.{length, set, drop, length-set, length-append}
+use mathlib.Core.List.{List, [], _∷_, _++_, flatten, append-nil}
+use lib.ListN.{length, set, drop, length-set}
 use lib.Seq.{drop-drop, sets, sets-eq}
 use Rattle.units.specs.declared.Setup.{Setup}
 use Rattle.registers.specs.declared.Progress.{Progress}
 use Rattle.registers.specs.declared.Entry.{Entry}
-use Rattle.registers.specs.Access.{Ending, cut, is-read, is-data, low-byte, store, record-of, reads, received-of}
-use Rattle.registers.specs.Machine.{Step, Access, access, next, perform, no-room, exec-full, exec-on, exec, Run, run, after-call, after-bring-up, whole-run, bring-up}
+use Rattle.registers.specs.Access.{Ending, is-read, is-data, low-byte, words-in, store, record-of, reads, received-of}
+use Rattle.registers.specs.Machine.{Step, exec, run, after-call, flat, after-bring-up, whole-run, bring-up}
 use Rattle.registers.specs.State.{State, at, recorded, received, replay, room, left, after, resume}
 use Rattle.engine.specs.Run.{filled}
 use Rattle.engine.specs.Whole.{Final, after-calls, calls-run}
@@ -51,49 +51,49 @@ left-replay (e ∷ es) st =
     let n : ℕ = cond (is-read (e .code)) 1 0 in
     left-replay es (received e (recorded e st)) ∙ rw (left-one e st) (drop-drop (reads es) n (left st))
 
-one-add : (n : ℕ) → 1 + n ≡ suc n
-one-add n = omega arith
+-- a run that ends so, after so many calls, on a state that its log is replayed on
+abbrev pub final-of : State → Ending → ℕ → List Entry → Final
+final-of st e k log = record { ending = e; calls = k; state = replay log st }
 
--- the run that the machine makes, on a state
-abbrev pub final-of : State → Run → Final
-final-of st r = record { ending = r .ending; calls = r .calls; state = replay (r .log) st }
-
-pub calls-run-is : (s : Setup) (cs : List (List Step)) (st : State) → calls-run s cs st ≡ final-of st (run s cs (room st) (left st))
-unfolding calls-run run replay resume after after-call
+pub calls-run-is : (s : Setup) (cs : List (List Step)) (st : State)
+    → let r = run s cs (room st) (left st) in calls-run s cs st ≡ final-of st (r .ending) (r .calls) (flatten (r .begun))
+unfolding calls-run run replay resume after after-call flatten
 calls-run-is s [] st = refl
 calls-run-is s (c ∷ cs) st = go (exec s (room st) c (left st) .log) (exec s (room st) c (left st) .ending) (calls-run-is s cs)
   where
-    go : (l : List Entry) (e : Ending) → ((st : State) → calls-run s cs st ≡ final-of st (run s cs (room st) (left st)))
-        → after-calls 1 (after e (replay l st)) (calls-run s cs) ≡ final-of st (after-call l e (run s cs (room st - length l) (drop (reads l) (left st))))
+    go : (l : List Entry) (e : Ending)
+        → ((st : State) → let r = run s cs (room st) (left st) in calls-run s cs st ≡ final-of st (r .ending) (r .calls) (flatten (r .begun)))
+        → let r = after-call l e (run s cs (room st - length l) (drop (reads l) (left st))) in
+        after-calls 1 (after e (replay l st)) (calls-run s cs) ≡ final-of st (r .ending) (r .calls) (flatten (r .begun))
     go l Ending.well ih = rw (ih (replay l st), room-replay l st, left-replay l st, replay-append, one-add)
-    go l (Ending.failed a) ih = refl
-    go l (Ending.cut-short a) ih = refl
+    go l (Ending.failed a) ih = rw append-nil
+    go l (Ending.cut-short a) ih = rw append-nil
 
 -- the bring-up, then the calls
-pub whole-run-is : (s : Setup) (cs : List (List Step)) (st : State)
-    → after-calls 0 (resume s (bring-up s) st) (calls-run s cs) ≡ final-of st (whole-run s cs (room st) (left st))
-unfolding whole-run replay resume after after-bring-up
+pub whole-run-is : (s : Setup) (cs : List (List Step)) (st : State) → let r = whole-run s cs (room st) (left st) in
+    after-calls 0 (resume s (bring-up s) st) (calls-run s cs) ≡ final-of st (r .ending) (r .calls) (flat (r .log))
+unfolding whole-run replay resume after after-bring-up flatten
 whole-run-is s cs st = go (exec s (room st) (bring-up s) (left st) .log) (exec s (room st) (bring-up s) (left st) .ending)
   where
-    go : (l : List Entry) (e : Ending)
-        → after-calls 0 (after e (replay l st)) (calls-run s cs) ≡ final-of st (after-bring-up l e (run s cs (room st - length l) (drop (reads l) (left st))))
+    go : (l : List Entry) (e : Ending) → let r = after-bring-up l e (run s cs (room st - length l) (drop (reads l) (left st))) in
+        after-calls 0 (after e (replay l st)) (calls-run s cs) ≡ final-of st (r .ending) (r .calls) (flat (r .log))
     go l Ending.well = rw (calls-run-is s cs (replay l st), room-replay l st, left-replay l st, replay-append, zero-add)
-    go l (Ending.failed a) = refl
-    go l (Ending.cut-short a) = refl
+    go l (Ending.failed a) = rw (append-nil l)
+    go l (Ending.cut-short a) = rw (append-nil l)
 
 -- what a replayed log leaves in the buffers and the counts
 pub replay-is : (es : List Entry) (rs lg rx : List ℕ) (b : Progress)
     → replay es (at rs lg rx b)
-    ≡ at rs (sets lg (2 * b .made) (record-of es)) (sets rx (b .got) (received-of es))
+    ≡ at rs (sets lg (words-in (b .made)) (record-of es)) (sets rx (b .got) (received-of es))
     (record { used = b .used + reads es; made = b .made + length es; got = b .got + length (received-of es) })
 unfolding replay record-of received-of reads recorded received store
 replay-is [] rs lg rx b = simp add-zero
 replay-is (e ∷ es) rs lg rx b = replay-is es rs _ _ _ ∙ go (is-data (e .code)) (is-read (e .code))
   where
-    n1 : 2 * b .made + 1 ≡ suc (2 * b .made)
+    n1 : words-in (b .made) + 1 ≡ suc (words-in (b .made))
     n1 = omega arith
 
-    n2 : 2 * (b .made + 1) ≡ suc (suc (2 * b .made))
+    n2 : words-in (b .made + 1) ≡ suc (suc (words-in (b .made)))
     n2 = omega arith
 
     n3 : (x y : ℕ) → x + 1 + y ≡ x + suc y
@@ -103,10 +103,10 @@ replay-is (e ∷ es) rs lg rx b = replay-is es rs _ _ _ ∙ go (is-data (e .code
     n4 x y = omega arith
 
     go : (t u : Bool)
-        → at rs (sets (set (set lg (2 * b .made) (e .code)) (2 * b .made + 1) (e .value)) (2 * (b .made + 1)) (record-of es))
+        → at rs (sets (set (set lg (words-in (b .made)) (e .code)) (words-in (b .made) + 1) (e .value)) (words-in (b .made + 1)) (record-of es))
         (sets (cond t (set rx (b .got) (low-byte (e .value))) rx) (cond t (b .got + 1) (b .got)) (received-of es))
         (record { used = cond u (b .used + 1) (b .used) + reads es; made = b .made + 1 + length es; got = cond t (b .got + 1) (b .got) + length (received-of es) })
-        ≡ at rs (sets lg (2 * b .made) (e .code ∷ e .value ∷ record-of es))
+        ≡ at rs (sets lg (words-in (b .made)) (e .code ∷ e .value ∷ record-of es))
         (sets rx (b .got) (cond t (low-byte (e .value) ∷ []) [] ++ received-of es))
         (record { used = b .used + (cond u 1 0 + reads es); made = b .made + suc (length es); got = b .got + length (cond t (low-byte (e .value) ∷ []) [] ++ received-of es) })
     go true true = rw (n1, n2, n4 (b .used) (reads es), n3 (b .made) (length es), n3 (b .got) (length (received-of es)), add-one (b .got))
@@ -119,47 +119,7 @@ pub filled-is : (l words : List ℕ) → length words ≤ length l → sets l 0 
 unfolding filled
 filled-is l words h = sets-eq words l 0 (rw zero-add h) ∙ rw zero-add
 
-pub record-length : (es : List Entry) → length (record-of es) ≡ 2 * length es
+pub record-length : (es : List Entry) → length (record-of es) ≡ words-in (length es)
 unfolding record-of
 record-length [] = refl
 record-length (e ∷ es) = omega (arith, record-length es)
-
--- a run makes no more accesses than fit
-exec-room : (s : Setup) (n : ℕ) (p : List Step) (rs : List ℕ) → length (exec s n p rs .log) ≤ n
-unfolding exec exec-on exec-full perform no-room
-exec-room s zero [] rs = omega arith
-exec-room s zero (i ∷ p) rs = go (access i)
-  where
-    go : (a : Access) → length (no-room a .log) ≤ 0
-    go (Access.halt e) = omega arith
-    go (Access.read r) = omega arith
-    go (Access.write r v) = omega arith
-exec-room s (suc n) [] rs = omega arith
-exec-room s (suc n) (i ∷ p) rs = go (access i) rs (exec-room s n)
-  where
-    go : (a : Access) (rs : List ℕ) → ((p : List Step) (rs : List ℕ) → length (exec s n p rs .log) ≤ n)
-        → length (perform a (λ v. next s i v ++ p) rs (exec s n) .log) ≤ suc n
-    go (Access.halt e) rs ih = omega arith
-    go (Access.write r v) rs ih = omega (arith, ih (next s i v ++ p) rs)
-    go (Access.read r) [] ih = omega arith
-    go (Access.read r) (w ∷ rs) ih = omega (arith, ih (next s i (cut r w) ++ p) rs)
-
-run-room : (s : Setup) (cs : List (List Step)) (n : ℕ) (rs : List ℕ) → length (run s cs n rs .log) ≤ n
-unfolding run after-call
-run-room s [] n rs = omega arith
-run-room s (c ∷ cs) n rs = go (exec s n c rs .log) (exec s n c rs .ending) (exec-room s n c rs) (run-room s cs)
-  where
-    go : (l : List Entry) (e : Ending) → length l ≤ n → ((n : ℕ) (rs : List ℕ) → length (run s cs n rs .log) ≤ n)
-        → length (after-call l e (run s cs (n - length l) (drop (reads l) rs)) .log) ≤ n
-    go l Ending.well h ih = omega (arith, length-append l (run s cs (n - length l) (drop (reads l) rs) .log), ih (n - length l) (drop (reads l) rs))
-    go l (Ending.failed e) h ih = h
-    go l (Ending.cut-short c) h ih = h
-
-pub whole-room : (s : Setup) (cs : List (List Step)) (n : ℕ) (rs : List ℕ) → length (whole-run s cs n rs .log) ≤ n
-unfolding whole-run after-bring-up
-whole-room s cs n rs = go (exec s n (bring-up s) rs .log) (exec s n (bring-up s) rs .ending) (exec-room s n (bring-up s) rs)
-  where
-    go : (l : List Entry) (e : Ending) → length l ≤ n → length (after-bring-up l e (run s cs (n - length l) (drop (reads l) rs)) .log) ≤ n
-    go l Ending.well h = omega (arith, length-append l (run s cs (n - length l) (drop (reads l) rs) .log), run-room s cs (n - length l) (drop (reads l) rs))
-    go l (Ending.failed e) h = h
-    go l (Ending.cut-short c) h = h

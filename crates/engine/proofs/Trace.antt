@@ -14,8 +14,9 @@ use Rattle.registers.specs.declared.Bits.{Bits}
 use Rattle.registers.specs.declared.Flagged.{Flagged}
 use Rattle.registers.specs.declared.Awaited.{Awaited}
 use Rattle.registers.specs.Word.{has, SB, BERR, STOP}
-use Rattle.registers.specs.Access.{CYC, wCR1, wSR1}
+use Rattle.registers.specs.Access.{CYC, wCR1, wSR1, Ending, number}
 use Rattle.registers.specs.Machine.{Step, Handler, Access, access, next, check-word, after-check, poll-word, poll-error, poll-ready, after-poll, handle, stop-for, since}
+use Rattle.engine.proofs.Goes.{Goes, done, halted, full, lacks, wrote, took, error-number}
 
 -- an entry is of the access that a step makes
 abbrev pub Made : Access → Entry → Type 0
@@ -29,6 +30,16 @@ Trace s [] [] = Unit {0}
 Trace s [] (i ∷ p) = ⊥
 Trace s (m ∷ l) [] = ⊥
 Trace s (m ∷ l) (i ∷ p) = Made (access i) m × Trace s l (next s i (m .value) ++ p)
+
+-- the log of steps that end well is a trace of them
+pub goes-trace : {s : Setup} {p : List Step} {n : ℕ} {rs : List ℕ} {l : List Entry} {e : Ending} → Goes s p n rs l e → number e ≡ 0 → Trace s l p
+unfolding Trace number
+goes-trace done z = tt
+goes-trace (halted e a) z = absurd (omega (arith, error-number e))
+goes-trace (full a h) z = absurd (omega arith)
+goes-trace (lacks r a t) z = absurd (omega arith)
+goes-trace (wrote r v a t g) z = (rw a (refl, refl), goes-trace g z)
+goes-trace (took r w a t g) z = (rw a refl, goes-trace g z)
 
 -- where this log is a trace of both programs, P
 pub record At (s : Setup) (P : Type 0) (l : List Entry) (p q : List Step) : Type 0 where

@@ -10,7 +10,7 @@ use Rattle.buslist.specs.Refusal.{any}
 use Rattle.buslist.specs.Meaning.{Operation, write, read, Call, calls-of}
 use Rattle.buslist.specs.Encode.{encode}
 use Rattle.registers.specs.Access.{record-of, received-of}
-use Rattle.registers.specs.Machine.{poll-word, start, poll-error, poll-ready, after-poll}
+use Rattle.registers.specs.Machine.{poll-word, start, poll-error, poll-ready, after-poll, flat}
 use Rattle.i2c.specs.Polling.{read-bytes}
 use Rattle.blocking.specs.Blocking.{later-bytes, write-bytes-and-wait, write-without-stop, read-steps, close-after, blocking-steps}
 use Rattle.engine.specs.Run.{run}
@@ -117,7 +117,7 @@ pub record Witness : Type 0 where
   -- a pair that receives, and the bytes
   pub reading-pair : Alike (alone one-read) (alone two-reads) 2
   pub reading-ends : EndWell (alone one-read) (alone two-reads) 2 (0 ∷ turned)
-  pub reading-bytes : received-of (run (alone one-read) (0 ∷ turned) 2 100 .log) ≡ 0x2a ∷ 0x2b ∷ []
+  pub reading-bytes : received-of (flat (run (alone one-read) (0 ∷ turned) 2 100 .log)) ≡ 0x2a ∷ 0x2b ∷ []
   -- a pair of lists that have a call for each engine
   pub both-pair : Alike both both′ 0
   pub both-ends : EndWell both both′ 0 (0 ∷ polled ++ timed)
@@ -187,6 +187,6 @@ pub one-run : {l m : List ℕ} {rx : ℕ} {readings : List ℕ} → Alike l m rx
 one-run a e = demand-3 .same-run _ _ (a .comparable) (a .equal-calls) (e .full) (e .full′) _ _ 100 (a .accepted) (a .accepted′)
 
 -- and the records of two unlike lists differ
-pub unlike-records : {l m : List ℕ} {rx : ℕ} {readings : List ℕ} → Unlike l m rx readings → record-of (run l readings rx 100 .log) ≡ record-of (run m readings rx 100 .log) → ⊥
+pub unlike-records : {l m : List ℕ} {rx : ℕ} {readings : List ℕ} → Unlike l m rx readings → record-of (flat (run l readings rx 100 .log)) ≡ record-of (flat (run m readings rx 100 .log)) → ⊥
 unlike-records u e =
     u .unlike-calls (demand-3 .told-apart _ _ (u .comparable) _ _ _ _ 100 100 (u .accepted) (u .accepted′) (u .ends) (u .ends′) e)

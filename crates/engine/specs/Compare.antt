@@ -8,6 +8,7 @@ use Rattle.buslist.specs.Bytes.{word}
 use Rattle.buslist.specs.Refusal.{refusal, any}
 use Rattle.buslist.specs.Meaning.{Operation, write, read, Call, calls-of}
 use Rattle.registers.specs.Access.{record-of, received-of}
+use Rattle.registers.specs.Machine.{flat}
 use Rattle.engine.specs.Calls.{Engine, polling, blocking, engine-of}
 use Rattle.engine.specs.Run.{Result, run, counts-of}
 
@@ -95,8 +96,8 @@ reduced-calls l = map reduced (calls-of l)
 -- what is compared of two runs: the answer and the four counts, the record's words, and the received bytes
 pub record SameRun (r r′ : Result) : Type 0 where
   pub counts : counts-of r ≡ counts-of r′
-  pub record-words : record-of (r .log) ≡ record-of (r′ .log)
-  pub received-bytes : received-of (r .log) ≡ received-of (r′ .log)
+  pub record-words : record-of (flat (r .log)) ≡ record-of (flat (r′ .log))
+  pub received-bytes : received-of (flat (r .log)) ≡ received-of (flat (r′ .log))
 
 -- demand 3, one claim about two lists of bytes
 pub record Demand3 : Type 0 where
@@ -104,7 +105,7 @@ pub record Demand3 : Type 0 where
   pub told-apart : (l m : List ℕ) → Comparable l m
       → (readings readings′ : List ℕ) (rx rx′ words words′ : ℕ) → Accepted l rx → Accepted m rx′
       → run l readings rx words .answer ≡ 0 → run m readings′ rx′ words′ .answer ≡ 0
-      → record-of (run l readings rx words .log) ≡ record-of (run m readings′ rx′ words′ .log)
+      → record-of (flat (run l readings rx words .log)) ≡ record-of (flat (run m readings′ rx′ words′ .log))
       → reduced-calls l ≡ reduced-calls m
   -- equal reduced calls, no polling call ending in an empty read, mean equal runs on equal readings and buffers, wherever they stop
   pub same-run : (l m : List ℕ) → Comparable l m → reduced-calls l ≡ reduced-calls m

@@ -1,18 +1,23 @@
 -- Demand 1 over the meaning of a run.
-use Prim.Native.Nat.{ℕ, _≤_}
+use Prim.Native.Nat.{ℕ, _+_, _≤_, _<_}
 use mathlib.Core.Path.{_≡_}
-use mathlib.Core.List.{List, [], _∷_}
+use mathlib.Core.List.{List, [], _∷_, _++_}
 use mathlib.Core.Bool.{Bool, true, false, _&&_, _||_}
-use lib.ListN.{length}
+use lib.ListN.{length, take}
 use lib.Dec.{leb}
 use Rattle.buslist.specs.Refusal.{refusal}
+use Rattle.buslist.specs.Meaning.{calls-of}
 use Rattle.registers.specs.declared.Entry.{Entry}
 use Rattle.registers.specs.Access.{is-read, cut, entries-in, record-of, received-of, reads}
-use Rattle.engine.specs.Run.{run, filled}
+use Rattle.registers.specs.Machine.{flat}
+use Rattle.engine.specs.Run.{Result, run, filled}
 
--- the numbers of document 01's table: 0 to 10, and 20 to 26
+-- the numbers of document 01's table: 0 to 10, and the causes, 20 to 26
+abbrev pub is-cause : ℕ → Bool
+is-cause n = leb 20 n && leb n 26
+
 abbrev pub known : ℕ → Bool
-known n = leb n 10 || leb 20 n && leb n 26
+known n = leb n 10 || is-cause n
 
 -- an entry with the next reading as its value where it is a read, then the rest on the readings left
 unfoldable pub answer : Bool → Entry → (List ℕ → List Entry) → List ℕ → List Entry
@@ -25,17 +30,46 @@ unfoldable pub answered : List Entry → List ℕ → List Entry
 answered [] rs = []
 answered (e ∷ es) rs = answer (is-read (e .code)) e (answered es) rs
 
--- what holds of the run of a list on readings, with a received buffer of rx bytes and a record of so many words
-pub record Demand1 (list readings : List ℕ) (rx words : ℕ) : Type 0 where
-  -- every run's answer is one of document 01's numbers
-  pub answer : known (run list readings rx words .answer) ≡ true
-  -- a refused list gets its cause, makes no access, has zero counts and changes no buffer
-  pub refused : (refusal list rx ≡ 0 → ⊥) → (run list readings rx words .answer ≡ refusal list rx) × (run list readings rx words .calls ≡ 0) × (run list readings rx words .log ≡ [])
-  pub unchanged : (refusal list rx ≡ 0 → ⊥) → (buffer : List ℕ)
-      → (filled buffer (record-of (run list readings rx words .log)) ≡ buffer) × (filled buffer (received-of (run list readings rx words .log)) ≡ buffer)
-  -- the readings used are the ones taken
-  pub taken : answered (run list readings rx words .log) readings ≡ run list readings rx words .log
-  -- every run ends: with at most half as many accesses as record words, no more readings than given, no more bytes than the buffer
-  pub accesses : length (run list readings rx words .log) ≤ entries-in words
-  pub used : reads (run list readings rx words .log) ≤ length readings
-  pub got : length (received-of (run list readings rx words .log)) ≤ rx
+-- a log lacks a reading: all are used, there is room for an entry, and the next access is a read of one register
+-- `longer` is the log with a further reading: it goes on with that read, whatever the reading is
+pub record LacksReading (log : List Entry) (readings : List ℕ) (room : ℕ) (longer : ℕ → List Entry) : Type 0 where
+  pub all-used : reads log ≡ length readings
+  pub fits : length log < room
+  pub code : ℕ
+  pub of-read : is-read code ≡ true
+  pub next : (reading : ℕ) → take (length log + 1) (longer reading) ≡ log ++ record { code = code; value = cut code reading } ∷ []
+
+-- the accesses of the run of a list on readings, with a received buffer of rx bytes and a record of so many words
+abbrev pub accesses : (list readings : List ℕ) (rx words : ℕ) → List Entry
+accesses list readings rx words = flat (run list readings rx words .log)
+
+module _ (list readings : List ℕ) (rx words : ℕ) where
+  -- that run, and its accesses
+  abbrev pub ran : Result
+  ran = run list readings rx words
+
+  abbrev pub log : List Entry
+  log = accesses list readings rx words
+
+  -- what holds of it
+  pub record Demand1 : Type 0 where
+    -- the answer is one of document 01's numbers: at most 10 where the list is accepted, and from 20 on where it is refused
+    pub answer : known (ran .answer) ≡ true
+    pub accepted : refusal list rx ≡ 0 → ran .answer ≤ 10
+    -- a refused list gets its cause, begins no call, makes no access, has zero counts and changes no buffer
+    pub refused : (refusal list rx ≡ 0 → ⊥) → (20 ≤ ran .answer) × (ran .answer ≡ refusal list rx) × (ran .calls ≡ 0) × (ran .log ≡ record { opening = []; begun = [] })
+    pub unchanged : (refusal list rx ≡ 0 → ⊥) → (buffer : List ℕ) → (filled buffer (record-of log) ≡ buffer) × (filled buffer (received-of log) ≡ buffer)
+    -- 0: every call of the list ended well
+    pub well : ran .answer ≡ 0 → ran .calls ≡ length (calls-of list)
+    -- 9: the next access is a read and every reading is used
+    pub no-reading : ran .answer ≡ 9 → LacksReading log readings (entries-in words) (λ reading. accesses list (readings ++ reading ∷ []) rx words)
+    -- 10: no entry fits the rest of the record
+    pub no-record : ran .answer ≡ 10 → length log ≡ entries-in words
+    -- every call that ended well was begun, and at most one more
+    pub begun : (ran .calls ≤ length (ran .log .begun)) × (length (ran .log .begun) ≤ ran .calls + 1)
+    -- the readings used are the ones taken
+    pub taken : answered log readings ≡ log
+    -- every run ends: with no more accesses than fit the record, no more readings than given, no more bytes than the buffer
+    pub made : length log ≤ entries-in words
+    pub used : reads log ≤ length readings
+    pub got : length (received-of log) ≤ rx

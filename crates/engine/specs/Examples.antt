@@ -1,7 +1,7 @@
 -- Document 01's proved examples, in one table over the meanings.
 use Prim.Native.Nat.{ℕ}
 use mathlib.Core.Path.{_≡_, refl}
-use mathlib.Core.List.{List, [], _∷_, flatMap}
+use mathlib.Core.List.{List, [], _∷_, flatMap, flatten}
 use Rattle.buslist.specs.Bytes.{half, word}
 use Rattle.buslist.specs.Table.{settings-of, call-at, operation-at, entries}
 use Rattle.buslist.specs.Form.{header-right, written, operation-right, operations-right, has-directions, kind-right, call-right, calls-right, of-the-form}
@@ -18,7 +18,7 @@ use Rattle.registers.specs.declared.Flagged.{Flagged}
 use Rattle.registers.specs.declared.Awaited.{Awaited}
 use Rattle.registers.specs.Word.{has, with-bit, without-bit}
 use Rattle.registers.specs.Access.{cut, clear-word, record-of, reads, received-of, number}
-use Rattle.registers.specs.Machine.{Step, Handler, check-word, after-check, poll-word, since, next, handle, exec, exec-on, exec-full, perform, no-room, after-call, after-bring-up, whole-run, run as machine-run}
+use Rattle.registers.specs.Machine.{Step, Handler, check-word, after-check, poll-word, since, next, handle, exec, exec-on, exec-full, perform, no-room, after-call, after-bring-up, flat, whole-run, run as machine-run}
 use Rattle.i2c.specs.Polling.{write-bytes, last-read, turn, turn-write, turn-read, transfer, polling-steps}
 use Rattle.engine.specs.Calls.{engine-of, early, operations-steps, steps-of}
 use Rattle.engine.specs.Run.{Result, run, result, accepted-run, counts-of}
@@ -67,8 +67,8 @@ first-run = run (at-frequency 100000) (0 ∷ 1 ∷ 1 ∷ 1 ∷ 1 ∷ 3 ∷ 2 ∷
 
 pub record Table : Type 0 where
   -- the run printed in document 01: record, received bytes, and all five numbers
-  pub p1-record : record-of (first-run .log) ≡ printed
-  pub p1-received : received-of (first-run .log) ≡ []
+  pub p1-record : record-of (flat (first-run .log)) ≡ printed
+  pub p1-received : received-of (flat (first-run .log)) ≡ []
   pub p1-counts : counts-of first-run ≡ record { answer = 0; calls = 1; used = 12; made = 21; got = 0 }
   -- 2:1, 36 MHz, 400,000: CCR 801E hex, TRISE 11
   pub p2 : (speed-ccr 36000000 1 400000 ≡ 0x801e) × (speed-trise 36000000 1 400000 ≡ 11)
@@ -101,7 +101,7 @@ computed l rx = refusal l rx
 
 -- names all that a polling run computes by
 unfoldable pub ran : List ℕ → List ℕ → ℕ → ℕ → Result
-unfolding run result accepted-run counts-of setup-of steps-of operations-steps engine-of early operation-of has with-bit without-bit cut clear-word record-of reads received-of number check-word after-check next exec exec-on exec-full perform no-room after-call after-bring-up machine-run whole-run handle write-bytes last-read turn turn-write turn-read transfer polling-steps
+unfolding run result accepted-run counts-of setup-of steps-of operations-steps engine-of early operation-of has with-bit without-bit cut clear-word record-of reads received-of number check-word after-check next exec exec-on exec-full perform no-room after-call after-bring-up machine-run whole-run flatten handle write-bytes last-read turn turn-write turn-read transfer polling-steps
 ran l rs rx words = run l rs rx words
 
 pub table : Table

@@ -4,4 +4,5 @@ pub mod Whole
 pub mod Run
 pub mod Demand1
 pub mod Compare
+pub mod Corollaries
 pub mod Examples

@@ -11,9 +11,8 @@ use Rattle.units.specs.Setup.{setup-of}
 use Rattle.buslist.specs.Table.{settings-of}
 use Rattle.buslist.specs.Refusal.{refusal}
 use Rattle.buslist.specs.Meaning.{calls-of}
-use Rattle.registers.specs.declared.Entry.{Entry}
 use Rattle.registers.specs.Access.{entries-in, record-of, reads, received-of, number}
-use Rattle.registers.specs.Machine.{Run, whole-run}
+use Rattle.registers.specs.Machine.{Log, flat, WholeRun, whole-run}
 use Rattle.registers.specs.Contract.{Slice}
 use Rattle.engine.specs.declared.Counts.{Counts}
 use Rattle.engine.specs.Calls.{steps-of}
@@ -22,21 +21,21 @@ use Rattle.engine.specs.Calls.{steps-of}
 pub record Result : Type 0 where
   pub answer : ℕ
   pub calls : ℕ
-  pub log : List Entry
+  pub log : Log
 
 -- an accepted list: the bring-up, then the calls in order, with this many record words
-unfoldable pub accepted-run : List ℕ → List ℕ → ℕ → Run
+unfoldable pub accepted-run : List ℕ → List ℕ → ℕ → WholeRun
 accepted-run list readings record-words =
     let s : Setup = setup-of (settings-of list) in
     whole-run s (map (steps-of s) (calls-of list)) (entries-in record-words) readings
 
 -- a refused list makes no access
-unfoldable pub result : ℕ → Run → Result
+unfoldable pub result : ℕ → WholeRun → Result
 result refusal r = go (eqb refusal 0)
   where
     go : Bool → Result
     go true = record { answer = number (r .ending); calls = r .calls; log = r .log }
-    go false = record { answer = refusal; calls = 0; log = [] }
+    go false = record { answer = refusal; calls = 0; log = record { opening = []; begun = [] } }
 
 -- the run of a list with a received buffer of so many bytes and a record of so many words
 unfoldable pub run : List ℕ → List ℕ → ℕ → ℕ → Result
@@ -48,9 +47,9 @@ counts-of r =
     record {
       answer = r .answer;
       calls = r .calls;
-      used = reads (r .log);
-      made = length (r .log);
-      got = length (received-of (r .log));
+      used = reads (flat (r .log));
+      made = length (flat (r .log));
+      got = length (received-of (flat (r .log)));
     }
 
 -- a buffer with these words from its start, and the rest as it was
@@ -60,8 +59,8 @@ filled buffer words = words ++ drop (length words) buffer
 -- a run's contract: the answer and the counts are the meaning's; the received buffer and the record hold its bytes and words, and past them what they held
 pub record Meant (r : Result) (rx lg rx′ lg′ : List ℕ) (c : Counts) : Type 0 where
   pub counts : c ≡ counts-of r
-  pub received : rx′ ≡ filled rx (received-of (r .log))
-  pub recorded : lg′ ≡ filled lg (record-of (r .log))
+  pub received : rx′ ≡ filled rx (received-of (flat (r .log)))
+  pub recorded : lg′ ≡ filled lg (record-of (flat (r .log)))
 
 -- the run of this list on these readings: what the buffers held before and hold after, and what it counted
 abbrev pub RunsTo : (list readings rx lg rx′ lg′ : List ℕ) → Counts → Type 0

@@ -72,9 +72,13 @@ entry-words e = e .code ∷ e .value ∷ []
 abbrev pub entries-in : ℕ → ℕ
 entries-in words = words / 2
 
+-- how many words so many entries take
+abbrev pub words-in : ℕ → ℕ
+words-in entries = 2 * entries
+
 -- entry number k stored in a record
 unfoldable pub store : List ℕ → ℕ → Entry → List ℕ
-store lg k e = set (set lg (2 * k) (e .code)) (2 * k + 1) (e .value)
+store lg k e = set (set lg (words-in k) (e .code)) (words-in k + 1) (e .value)
 
 -- the record of a log: the words of its entries
 unfoldable pub record-of : List Entry → List ℕ

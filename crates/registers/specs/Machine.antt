@@ -2,7 +2,7 @@
 -- A program is a list of steps. The first step names an access; the value read decides which steps take its place.
 use Prim.Native.Nat.{ℕ, zero, suc, _+_, _-_, _%_, _^_}
 use mathlib.Core.Bool.{Bool, true, false, not, cond}
-use mathlib.Core.List.{List, [], _∷_, _++_}
+use mathlib.Core.List.{List, [], _∷_, _++_, flatten}
 use lib.ListN.{length, drop}
 use lib.Dec.{leb}
 use Rattle.units.specs.declared.Setup.{Setup}
@@ -210,33 +210,48 @@ unfoldable pub exec : Setup → ℕ → List Step → List ℕ → Ran
 exec s zero = exec-full
 exec s (suc room) = exec-on s (exec s room)
 
--- the calls in order, each its steps, until one does not end well: how the run ends, calls ended well, and every access
+-- the calls in order, each its steps, until one does not end well: how they end, calls ended well, and the accesses of each call begun
 pub record Run : Type 0 where
   pub ending : Ending
   pub calls : ℕ
-  pub log : List Entry
+  pub begun : List (List Entry)
 
 -- a call that ended well, and the calls after it; or the call that stops the run
 unfoldable pub after-call : List Entry → Ending → Run → Run
-after-call log well k = record { ending = k .ending; calls = suc (k .calls); log = log ++ k .log }
-after-call log (failed e) k = record { ending = failed e; calls = 0; log = log }
-after-call log (cut-short c) k = record { ending = cut-short c; calls = 0; log = log }
+after-call log well k = record { ending = k .ending; calls = suc (k .calls); begun = log ∷ k .begun }
+after-call log (failed e) k = record { ending = failed e; calls = 0; begun = log ∷ [] }
+after-call log (cut-short c) k = record { ending = cut-short c; calls = 0; begun = log ∷ [] }
 
 -- each call goes on in readings and record where the call before it left them
 unfoldable pub run : Setup → List (List Step) → ℕ → List ℕ → Run
-run s [] room rs = record { ending = well; calls = 0; log = [] }
+run s [] room rs = record { ending = well; calls = 0; begun = [] }
 run s (c ∷ cs) room rs =
     let r = exec s room c rs in
     after-call (r .log) (r .ending) (run s cs (room - length (r .log)) (drop (reads (r .log)) rs))
 
+-- the log of a whole run: the accesses of its opening, which is the bring-up, and those of each call begun
+pub record Log : Type 0 where
+  pub opening : List Entry
+  pub begun : List (List Entry)
+
+-- every access of a log, in order
+abbrev pub flat : Log → List Entry
+flat log = flatten (log .opening ∷ log .begun)
+
+-- a whole run: how it ends, calls ended well, and its log
+pub record WholeRun : Type 0 where
+  pub ending : Ending
+  pub calls : ℕ
+  pub log : Log
+
 -- the bring-up runs before the calls and is no call
-unfoldable pub after-bring-up : List Entry → Ending → Run → Run
-after-bring-up log well k = record { ending = k .ending; calls = k .calls; log = log ++ k .log }
-after-bring-up log (failed e) k = record { ending = failed e; calls = 0; log = log }
-after-bring-up log (cut-short c) k = record { ending = cut-short c; calls = 0; log = log }
+unfoldable pub after-bring-up : List Entry → Ending → Run → WholeRun
+after-bring-up opening well k = record { ending = k .ending; calls = k .calls; log = record { opening = opening; begun = k .begun } }
+after-bring-up opening (failed e) k = record { ending = failed e; calls = 0; log = record { opening = opening; begun = [] } }
+after-bring-up opening (cut-short c) k = record { ending = cut-short c; calls = 0; log = record { opening = opening; begun = [] } }
 
 -- a whole run: the bring-up, then the calls
-unfoldable pub whole-run : Setup → List (List Step) → ℕ → List ℕ → Run
+unfoldable pub whole-run : Setup → List (List Step) → ℕ → List ℕ → WholeRun
 whole-run s cs room rs =
     let r = exec s room (bring-up s) rs in
     after-bring-up (r .log) (r .ending) (run s cs (room - length (r .log)) (drop (reads (r .log)) rs))
