@@ -5,10 +5,19 @@ use Rattle.engine.proofs.blocking_operation.Statement.{statement}
 use Rattle.engine.proofs.blocking_operation.Tie as tie
 
 returns : tie.Need-returns
-returns c = let a = c .before .before .before .before .before .before .before .before .before .before .before .before .args in rw (operation-write (a .list .now) (a .o) (c .before .before .before .before .before .if1 .taken), ← c .before .before .before .bytes-of .ensures) (c .before .before .write-without-stop .ensures _)
+returns c =
+    let at-write-without-stop = c .before .before in
+    let at-bytes-of = at-write-without-stop .before in
+    let at-if1 = at-bytes-of .before .before in
+    let at-start = at-if1 .before .before .before .before .before .before .before in
+    let a = at-start .args in rw (operation-write (a .list .now) (a .o) (at-if1 .if1 .taken), ← at-bytes-of .bytes-of .ensures) (at-write-without-stop .write-without-stop .ensures _)
 
 returns-2 : tie.Need-returns-2
-returns-2 c = let a = c .before .before .before .before .before .before .before .before .before .before .before .before .before .before .before .args in rw (not-a-write (a .list .now) (a .o) (c .before .before .before .before .before .before .before .before .if1 .left)) (c .before .before .before .before .read .ensures)
+returns-2 c =
+    let at-read = c .before .before .before .before in
+    let at-if1 = at-read .before .before .before .before in
+    let at-start = at-if1 .before .before .before .before .before .before .before in
+    let a = at-start .args in rw (not-a-write (a .list .now) (a .o) (at-if1 .if1 .left)) (at-read .read .ensures)
 
 pub blocking-operation-spec : {M : Type 1} → statement M
 blocking-operation-spec =

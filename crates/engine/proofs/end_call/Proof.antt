@@ -12,7 +12,11 @@ returns c rx = rw (polling-call _ (sym (c .before .is-polling .ensures) ∙ c .i
 
 returns-2 : tie.Need-returns-2
 unfolding end-steps
-returns-2 c rx = rw (blocking-call _ (sym (c .before .before .before .before .before .is-polling .ensures) ∙ c .before .before .before .before .if1 .left)) (c .before .before .close-after .ensures rx)
+returns-2 c rx =
+    let at-close-after = c .before .before in
+    let at-if1 = at-close-after .before .before in
+    let at-is-polling = at-if1 .before in
+    rw (blocking-call _ (sym (at-is-polling .is-polling .ensures) ∙ at-if1 .if1 .left)) (at-close-after .close-after .ensures rx)
 
 pub end-call-spec : {M : Type 1} → statement M
 end-call-spec =

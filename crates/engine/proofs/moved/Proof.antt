@@ -31,11 +31,20 @@ returns c = rw (polling-call _ (sym (c .before .before .is-polling .ensures) ∙
 
 returns-2 : tie.Need-returns-2
 unfolding moved
-returns-2 c = let a = c .before .before .before .before .before .args in rw (blocking-call _ (sym (c .before .before .before .is-polling .ensures) ∙ c .before .before .if1 .left)) (sym (passed-over (a .previous) (operation-of (a .list .now) (a .o)) (sym (c .before .is-empty .ensures) ∙ c .if2 .taken)))
+returns-2 c =
+    let at-if1 = c .before .before in
+    let at-is-polling = at-if1 .before in
+    let at-start = at-is-polling .before .before in
+    let a = at-start .args in rw (blocking-call _ (sym (at-is-polling .is-polling .ensures) ∙ at-if1 .if1 .left)) (sym (passed-over (a .previous) (operation-of (a .list .now) (a .o)) (sym (c .before .is-empty .ensures) ∙ c .if2 .taken)))
 
 returns-3 : tie.Need-returns-3
 unfolding moved
-returns-3 c = let a = c .before .before .before .before .before .before .args in rw (blocking-call _ (sym (c .before .before .before .before .is-polling .ensures) ∙ c .before .before .before .if1 .left)) (c .direction2 .ensures (a .list .now) ∙ sym (not-passed (a .previous) (operation-of (a .list .now) (a .o)) (sym (c .before .before .is-empty .ensures) ∙ c .before .if2 .left)))
+returns-3 c =
+    let at-is-empty = c .before .before in
+    let at-if1 = at-is-empty .before in
+    let at-is-polling = at-if1 .before in
+    let at-start = at-is-polling .before .before in
+    let a = at-start .args in rw (blocking-call _ (sym (at-is-polling .is-polling .ensures) ∙ at-if1 .if1 .left)) (c .direction2 .ensures (a .list .now) ∙ sym (not-passed (a .previous) (operation-of (a .list .now) (a .o)) (sym (at-is-empty .is-empty .ensures) ∙ c .before .if2 .left)))
 
 pub moved-spec : {M : Type 1} → statement M
 moved-spec =

@@ -7,11 +7,19 @@ use Rattle.engine.proofs.operation.Tie as tie
 
 returns : tie.Need-returns
 unfolding operation-steps
-returns c = rw (polling-call _ (sym (c .before .before .before .before .before .before .before .before .is-polling .ensures) ∙ c .before .before .before .before .before .before .before .if1 .taken)) (c .before .before .before .before .polling-operation .ensures _)
+returns c =
+    let at-polling-operation = c .before .before .before .before in
+    let at-if1 = at-polling-operation .before .before .before in
+    let at-is-polling = at-if1 .before in
+    rw (polling-call _ (sym (at-is-polling .is-polling .ensures) ∙ at-if1 .if1 .taken)) (at-polling-operation .polling-operation .ensures _)
 
 returns-2 : tie.Need-returns-2
 unfolding operation-steps
-returns-2 c = rw (blocking-call _ (sym (c .before .before .before .before .before .before .before .before .is-polling .ensures) ∙ c .before .before .before .before .before .before .before .if1 .left)) (c .before .before .before .before .blocking-operation .ensures)
+returns-2 c =
+    let at-blocking-operation = c .before .before .before .before in
+    let at-if1 = at-blocking-operation .before .before .before in
+    let at-is-polling = at-if1 .before in
+    rw (blocking-call _ (sym (at-is-polling .is-polling .ensures) ∙ at-if1 .if1 .left)) (at-blocking-operation .blocking-operation .ensures)
 
 pub operation-spec : {M : Type 1} → statement M
 operation-spec =

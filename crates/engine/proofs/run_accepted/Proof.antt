@@ -14,13 +14,32 @@ setup-of-requires : tie.Need-setup-of-requires
 setup-of-requires c κs = rw (c .read-settings .ensures) (ranges _ _ (c .before .before .before .before .before .pre) .frequency-above)
 
 returns : tie.Need-returns
-returns c = let a = c .before .before .before .before .before .before .before .before .before .before .before .before in rw (c .counts-of .ensures) (accepted-meant _ _ _ _ 0 (c .before .before .before .before .init .result) (a .pre) _ (c .before .before .before .before .before .before .setup-of .ensures ∙ ap setup-of (c .before .before .before .before .before .before .before .read-settings .ensures)) (first-stops (c .before .before .before .before .init .ensures _) _ (c .before .match .keys2)))
+returns c =
+    let at-init = c .before .before .before .before in
+    let at-setup-of = at-init .before .before in
+    let at-read-settings = at-setup-of .before in
+    let at-start = at-read-settings .before .before .before .before .before in
+    rw (c .counts-of .ensures) (accepted-meant _ _ _ _ 0 (at-init .init .result) (at-start .pre) _
+    (at-setup-of .setup-of .ensures ∙ ap setup-of (at-read-settings .read-settings .ensures)) (first-stops (at-init .init .ensures _) _ (c .before .match .keys2)))
 
 run-calls-requires : tie.Need-run-calls-requires
-run-calls-requires c κs = (c .before .before .before .before .before .before .before .before .before .before .before .before .before .before .before .pre, keeps-fewer (c .before .before .before .before .before .before .before .init .ensures []) (c .before .before .before .outcome .given .1) (omega arith))
+run-calls-requires c κs =
+    let at-outcome = c .before .before .before in
+    let at-init = at-outcome .before .before .before .before in
+    let at-start = at-init .before .before .before .before .before .before .before .before in
+    (at-start .pre, keeps-fewer (at-init .init .ensures []) (at-outcome .outcome .given .1) (omega arith))
 
 returns-2 : tie.Need-returns-2
-returns-2 c = let a = c .before .before .before .before .before .before .before .before .before .before .before .before .before .before .before .before .before .before .before .before .before .before in rw (c .counts-of2 .ensures) (accepted-meant _ _ _ _ (c .before .before .before .before .before .before .run-calls .result .calls) (c .before .before .before .before .before .before .run-calls .result .outcome) (a .pre) _ (c .before .before .before .before .before .before .before .before .before .before .before .before .before .before .before .before .setup-of .ensures ∙ ap setup-of (c .before .before .before .before .before .before .before .before .before .before .before .before .before .before .before .before .before .read-settings .ensures)) (first-done (c .before .before .before .before .before .before .before .before .before .before .before .before .before .before .init .ensures _) _ (c .before .before .before .before .before .before .before .before .before .before .outcome .given .1) ∙ c .before .before .before .before .before .before .run-calls .ensures .is))
+returns-2 c =
+    let at-run-calls = c .before .before .before .before .before .before in
+    let at-outcome = at-run-calls .before .before .before .before in
+    let at-init = at-outcome .before .before .before .before in
+    let at-setup-of = at-init .before .before in
+    let at-read-settings = at-setup-of .before in
+    let at-start = at-read-settings .before .before .before .before .before in
+    rw (c .counts-of2 .ensures) (accepted-meant _ _ _ _ (at-run-calls .run-calls .result .calls) (at-run-calls .run-calls .result .outcome) (at-start .pre) _
+    (at-setup-of .setup-of .ensures ∙ ap setup-of (at-read-settings .read-settings .ensures))
+    (first-done (at-init .init .ensures _) _ (at-outcome .outcome .given .1) ∙ at-run-calls .run-calls .ensures .is))
 
 pub run-accepted-spec : {M : Type 1} → statement M
 run-accepted-spec =

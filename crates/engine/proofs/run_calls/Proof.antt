@@ -49,7 +49,9 @@ operation-offset-requires c κs = search needs
 
 calls-holds : tie.Need-calls-holds Inv-loop μ-loop Inv-calls μ-calls
 calls-holds c =
-    (left-rewritten (calls-all _ _ _ (c .before .before .call-count .ensures)) calls-start, refl, refl, c .before .before .before .before .before .before .before .pre .1, refl)
+    let at-call-count = c .before .before in
+    let at-start = at-call-count .before .before .before .before .before in
+    (left-rewritten (calls-all _ _ _ (at-call-count .call-count .ensures)) calls-start, refl, refl, at-start .pre .1, refl)
 
 call-at-requires : tie.Need-call-at-requires Inv-loop μ-loop Inv-calls μ-calls
 call-at-requires c κs = search needs
@@ -77,9 +79,14 @@ add-operation c = search needs
 
 operation-requires : tie.Need-operation-requires Inv-loop μ-loop Inv-calls μ-calls
 operation-requires c κs =
-    let a = c .before .before .before .before .before .before .before .before .before .before .before .before .before .before .before .before .before .before in
-    let h : c .before .before .before .before .before .before .before .before .before .before .calls .k < call-count (a .args .list .now) = omega (arith, c .before .before .before .before .before .before .before .before .before .calls-test .taken, c .before .before .before .before .before .before .before .before .before .before .before .before .before .call-count .ensures) in
-    (rw (c .before .before .before .before .before .before .before .before .call-at .ensures) (call-address _ _ (a .pre .0) _ h), c .before .before .before .before .loop .inv .3)
+    let at-loop = c .before .before .before .before in
+    let at-call-at = at-loop .before .before .before .before in
+    let at-calls-test = at-call-at .before in
+    let at-calls = at-calls-test .before in
+    let at-call-count = at-calls .before .before .before in
+    let at-start = at-call-count .before .before .before .before .before in
+    let h : at-calls .calls .k < call-count (at-start .args .list .now) = omega (arith, at-calls-test .calls-test .taken, at-call-count .call-count .ensures) in
+    (rw (at-call-at .call-at .ensures) (call-address _ _ (at-start .pre .0) _ h), at-loop .loop .inv .3)
 
 enum-known-outcome : tie.Need-enum-known-outcome Inv-loop μ-loop Inv-calls μ-calls
 enum-known-outcome c = search needs
@@ -88,21 +95,28 @@ moved-requires : tie.Need-moved-requires Inv-loop μ-loop Inv-calls μ-calls
 moved-requires c κs = search needs
 
 add-j : tie.Need-add-j Inv-loop μ-loop Inv-calls μ-calls
-add-j c = omega (arith, c .before .before .before .before .before .before .before .before .before .before .before .before .loop-test .taken, c .before .before .before .before .before .before .before .before .before .before .before .before .before .before .before .struct-known2 .given, c .before .before .before .before .before .before .before .before .before .before .before .before .before .before .before .before .struct-known .given)
+add-j c =
+    let at-loop-test = c .before .before .before .before .before .before .before .before .before .before .before .before in
+    let at-struct-known2 = at-loop-test .before .before .before in
+    let at-struct-known = at-struct-known2 .before in
+    omega (arith, at-loop-test .loop-test .taken, at-struct-known2 .struct-known2 .given, at-struct-known .struct-known .given)
 
 loop-less : tie.Need-loop-less Inv-loop μ-loop Inv-calls μ-calls
 loop-less c = search needs
 
 loop-again : tie.Need-loop-again Inv-loop μ-loop Inv-calls μ-calls
 loop-again c =
-    let o = c .before .before .before .before .before .before .before .before in
-    let t = c .before .before .before .before .before .before .before .before .before .before .before .before in (
-      call-step (o .operation .ensures) _
-          (rewritten (operations-next _ _ _ _ _ _ _ _ _ (t .loop-test .taken) (c .before .before .before .before .before .before .before .before .before .before .before .operation-at .ensures) (c .moved .ensures)) (t .before .loop .inv .0))
-          (c .before .before .outcome .given .1),
-      omega (arith, o .operation .kept),
-      omega (arith, o .operation .kept),
-      keeps-fewer (o .operation .ensures) (c .before .before .outcome .given .1) (t .before .loop .inv .3),
+    let at-outcome = c .before .before in
+    let at-operation = at-outcome .before .before .before .before .before .before in
+    let at-operation-at = at-operation .before .before .before in
+    let at-loop-test = at-operation-at .before in
+    let at-loop = at-loop-test .before in (
+      call-step (at-operation .operation .ensures) _
+          (rewritten (operations-next _ _ _ _ _ _ _ _ _ (at-loop-test .loop-test .taken) (at-operation-at .operation-at .ensures) (c .moved .ensures)) (at-loop .loop .inv .0))
+          (at-outcome .outcome .given .1),
+      omega (arith, at-operation .operation .kept),
+      omega (arith, at-operation .operation .kept),
+      keeps-fewer (at-operation .operation .ensures) (at-outcome .outcome .given .1) (at-loop .loop .inv .3),
     )
 
 end-call-requires : tie.Need-end-call-requires Inv-loop μ-loop Inv-calls μ-calls
@@ -119,14 +133,18 @@ calls-less c = search needs
 
 calls-again : tie.Need-calls-again Inv-loop μ-loop Inv-calls μ-calls
 calls-again c =
-    let e = c .before .before .before .before .before in
-    let l = c .before .before .before .before .before .before .before in
-    let k = c .before .before .before .before .before .before .before .before .before .before .before .before .before in
-    let done = call-last (rewritten (operations-done _ _ _ _ _ _ _ _ _ (l .loop-test .left)) (l .before .loop .inv .0)) (e .end-call .ensures _) in (
-      next-call (left-rewritten (calls-next _ _ _ _ _ (k .calls-test .taken) (c .before .before .before .before .before .before .before .before .before .before .before .before .call-at .ensures) refl) (k .before .calls .inv .0)) done (c .before .outcome2 .given .1),
+    let at-end-call = c .before .before .before .before .before in
+    let at-loop-test = at-end-call .before .before in
+    let at-loop = at-loop-test .before in
+    let at-call-at = at-loop .before .before .before .before in
+    let at-calls-test = at-call-at .before in
+    let at-calls = at-calls-test .before in
+    let done = call-last (rewritten (operations-done _ _ _ _ _ _ _ _ _ (at-loop-test .loop-test .left)) (at-loop .loop .inv .0)) (at-end-call .end-call .ensures _) in (
+      next-call (left-rewritten (calls-next _ _ _ _ _ (at-calls-test .calls-test .taken) (at-call-at .call-at .ensures) refl) (at-calls .calls .inv .0)) done
+          (c .before .outcome2 .given .1),
       omega arith,
-      omega (arith, e .end-call .kept),
-      keeps-fewer (e .end-call .ensures []) (c .before .outcome2 .given .1) (l .before .loop .inv .3),
+      omega (arith, at-end-call .end-call .kept),
+      keeps-fewer (at-end-call .end-call .ensures []) (c .before .outcome2 .given .1) (at-loop .loop .inv .3),
       refl,
     )
 
@@ -148,12 +166,16 @@ same-length-4 c = search needs
 
 returns-2 : tie.Need-returns-2 Inv-loop μ-loop Inv-calls μ-calls
 returns-2 c =
-    let o = c .before .before .before .before .before in
-    let t = c .before .before .before .before .before .before .before .before .before in
-    let k = c .before .before .before .before .before .before .before .before .before .before .before .before .before .before .before in
-    call-stops-run (left-rewritten (calls-next _ _ _ _ _ (k .calls-test .taken) (c .before .before .before .before .before .before .before .before .before .before .before .before .before .before .call-at .ensures) refl) (k .before .calls .inv .0))
-    (call-stops (o .operation .ensures) _
-    (rewritten (operations-next _ _ _ _ _ _ _ _ _ (t .loop-test .taken) (c .before .before .before .before .before .before .before .before .operation-at .ensures) refl) (t .before .loop .inv .0)) (c .match .keys2))
+    let at-operation = c .before .before .before .before .before in
+    let at-operation-at = at-operation .before .before .before in
+    let at-loop-test = at-operation-at .before in
+    let at-loop = at-loop-test .before in
+    let at-call-at = at-loop .before .before .before .before in
+    let at-calls-test = at-call-at .before in
+    let at-calls = at-calls-test .before in
+    call-stops-run (left-rewritten (calls-next _ _ _ _ _ (at-calls-test .calls-test .taken) (at-call-at .call-at .ensures) refl) (at-calls .calls .inv .0))
+    (call-stops (at-operation .operation .ensures) _
+    (rewritten (operations-next _ _ _ _ _ _ _ _ _ (at-loop-test .loop-test .taken) (at-operation-at .operation-at .ensures) refl) (at-loop .loop .inv .0)) (c .match .keys2))
     (c .match .keys2)
 
 same-length-5 : tie.Need-same-length-5 Inv-loop μ-loop Inv-calls μ-calls
@@ -164,11 +186,14 @@ same-length-6 c = search needs
 
 returns-3 : tie.Need-returns-3 Inv-loop μ-loop Inv-calls μ-calls
 returns-3 c =
-    let e = c .before .before .before in
-    let l = c .before .before .before .before .before in
-    let k = c .before .before .before .before .before .before .before .before .before .before .before in
-    call-stops-run (left-rewritten (calls-next _ _ _ _ _ (k .calls-test .taken) (c .before .before .before .before .before .before .before .before .before .before .call-at .ensures) refl) (k .before .calls .inv .0))
-    (call-last (rewritten (operations-done _ _ _ _ _ _ _ _ _ (l .loop-test .left)) (l .before .loop .inv .0)) (e .end-call .ensures _))
+    let at-end-call = c .before .before .before in
+    let at-loop-test = at-end-call .before .before in
+    let at-loop = at-loop-test .before in
+    let at-call-at = at-loop .before .before .before .before in
+    let at-calls-test = at-call-at .before in
+    let at-calls = at-calls-test .before in
+    call-stops-run (left-rewritten (calls-next _ _ _ _ _ (at-calls-test .calls-test .taken) (at-call-at .call-at .ensures) refl) (at-calls .calls .inv .0))
+    (call-last (rewritten (operations-done _ _ _ _ _ _ _ _ _ (at-loop-test .loop-test .left)) (at-loop .loop .inv .0)) (at-end-call .end-call .ensures _))
     (c .match2 .keys2)
 
 pub run-calls-spec : {M : Type 1} → statement M
