@@ -2,13 +2,14 @@
 ghost use mathlib.Core.Path.{_≡_};
 ghost use mathlib.Core.Bool.{true, false};
 ghost use mathlib.Core.List.{[], _∷_};
-ghost use Prim.Native.Nat.{_+_, _<_, _≤_, _^_};
-ghost use lib.ListN.{length};
+ghost use Prim.Native.Nat.{_+_, _-_, _*_, _<_, _≤_, _^_};
+ghost use lib.ListN.{length, getD};
 ghost use Rattle.units.specs.declared.Setup.{Setup};
 ghost use Rattle.registers.specs.Word.{has, with-bit, without-bit, with-bits, without-bits};
 ghost use lib.Dec.{leb};
-ghost use Rattle.registers.specs.Access.{DR, wSR1, is-read, is-data, entries-in, store, clear-word, number, failed};
+ghost use Rattle.registers.specs.Access.{SR1, DR, wSR1, is-read, is-data, cut, entries-in, store, clear-word, number, failed};
 ghost use Rattle.registers.specs.Machine.{Step};
+ghost use Rattle.registers.specs.State.{after-bytes, store-byte};
 ghost use Rattle.registers.specs.Contract.{outcome-of, failed-of, word-of, ending-of, Reads, Writes, Does, Receives};
 
 // Codes of the record: reads.
@@ -241,6 +242,79 @@ pub fn write(log: &mut [u32], progress: Progress, code: u32, value: u32) -> Outc
         made: made + 1,
         got: progress.got,
     })
+}
+
+// How many of so many bytes fit, each with its wait over at once: CYC, SR1 and DR.
+pub fn bytes_that_fit(readings: &[u32], log: &[u32], progress: Progress, count: usize) -> usize
+    ensures { λ r. ⌜ (r ≤ count) × (2 * r ≤ length (now (readings .entry)) - progress .used) × (3 * r ≤ entries-in (length (now (log .entry))) - progress .made) ⌝ }
+{
+    let entries = log.len() / 2;
+    if entries <= progress.made {
+        return 0;
+    }
+    if readings.len() <= progress.used {
+        return 0;
+    }
+    let recorded = (entries - progress.made) / 3;
+    let read = (readings.len() - progress.used) / 2;
+    let fit = if recorded < read { recorded } else { read };
+    if fit < count { fit } else { count }
+}
+
+// How far a run has come after so many such bytes.
+pub fn after_bytes(progress: Progress, count: usize) -> Progress
+    requires { ⌜ (progress .used + 2 * count < 2 ^ 64) × (progress .made + 3 * count < 2 ^ 64) ⌝ }
+    ensures { λ r. ⌜ r ≡ after-bytes progress count ⌝ }
+{
+    Progress {
+        used: progress.used + 2 * count,
+        made: progress.made + 3 * count,
+        got: progress.got,
+    }
+}
+
+// The SR1 word that a wait polls first.
+pub fn first_sr1(readings: &[u32], progress: Progress) -> u32
+    requires { ⌜ progress .used + 1 < length (now readings) ⌝ }
+    ensures { λ r. ⌜ r ≡ cut SR1 (getD (now (readings .entry)) (progress .used + 1) 0) ⌝ }
+{
+    readings[progress.used + 1] % 65536
+}
+
+// A byte whose wait is over at once: CYC, SR1 and DR, all of which fit.
+pub fn write_at_once(readings: &[u32], log: &mut [u32], progress: Progress, byte: u32)
+    requires { ⌜ (progress .used + 1 < length (now readings)) × (progress .made + 2 < entries-in (length (now log))) ⌝ }
+    ensures { λ _. ⌜ now (log .exit) ≡ store-byte (now (readings .entry)) (now (log .entry)) progress byte ⌝ }
+{
+    let made = progress.made;
+    let used = progress.used;
+    // Both before the record is touched, so that neither is loaded twice.
+    let cycles = readings[used];
+    let sr1 = first_sr1(readings, progress);
+    put_entry(
+        log,
+        made,
+        Entry {
+            code: CYC,
+            value: cycles,
+        },
+    );
+    put_entry(
+        log,
+        made + 1,
+        Entry {
+            code: SR1,
+            value: sr1,
+        },
+    );
+    put_entry(
+        log,
+        made + 2,
+        Entry {
+            code: W_DR,
+            value: byte,
+        },
+    );
 }
 
 // A read or a check for its own sake: the word plays no part.
