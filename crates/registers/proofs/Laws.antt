@@ -17,7 +17,7 @@ use Rattle.registers.specs.Access.{is-read, is-data, cut, CYC, DR, store
 use Rattle.registers.specs.Machine.{Step, Access, access, next, exec, exec-on, exec-full, perform, no-room}
 use Rattle.registers.specs.State.{State, After, Took, at, going, word, then, taking, entry, recorded, received, replay, room, left, after, resume, read-one, read, write-one, write}
 
-length-store : (lg : List ℕ) (k : ℕ) (e : Entry) → length (store lg k e) ≡ length lg
+pub length-store : (lg : List ℕ) (k : ℕ) (e : Entry) → length (store lg k e) ≡ length lg
 unfolding store
 length-store lg k e = simp length-set
 

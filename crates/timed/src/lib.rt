@@ -55,7 +55,7 @@ fn poll_error(word: u32, awaited: Awaited) -> Flagged
 }
 
 // Whether an SR1 word has this flag and no error flag: one test for all of them.
-fn wait_for_flag(sr1: u32, flag: u32) -> bool
+pub fn wait_for_flag(sr1: u32, flag: u32) -> bool
     requires { ⌜ waited-flag flag ≡ true ⌝ }
     ensures { λ r. ⌜ ((source : Source) → r ≡ over (Awaited.Flag flag source) sr1) ⌝ }
 {
