@@ -9,11 +9,16 @@ use registers::BusError;
 use registers::Outcome;
 use registers::Progress;
 use registers::Source;
+use registers::after_bytes;
+use registers::bytes_that_fit;
+use registers::first_sr1;
 use registers::get;
 use registers::modify_cr1;
 use registers::read_data;
+use registers::write_at_once;
 use timed::busy_wait_flag;
 use timed::busy_wait_stop;
+use timed::wait_for_flag;
 use units::Setup;
 ghost use mathlib.Core.List.{[], _∷_, _++_};
 ghost use Prim.Native.Nat.{_<_, _≤_};
@@ -21,6 +26,7 @@ ghost use lib.ListN.{length};
 ghost use Rattle.registers.specs.Machine.{Step, Handler, handle};
 ghost use Rattle.registers.specs.Access.{wDR};
 ghost use Rattle.registers.specs.Contract.{DoesWith, Does, Receives, Waits};
+ghost use Rattle.blocking.specs.Ready.{WritesReady};
 ghost use Rattle.blocking.specs.Blocking.{one-ready, more-ready, third-last, second-last, send-start-and-wait, send-addr-and-wait, later-bytes, read-status, write-bytes-and-wait, write-without-stop, close, receive, finish-read, read-one, two-ready, two-bytes, two-end, read-two, receive-bytes, last-three, read-more, read-arm, read-steps, close-after};
 
 // Start, at most retries times; the last answer holds.
@@ -135,6 +141,23 @@ fn write_first(readings: &[u32], log: &mut [u32], progress: Progress, byte: u32)
     registers::write(log, next, registers::W_DR, byte)
 }
 
+// The first bytes that fit and whose waits are over at once. The answer is how many.
+fn write_ready(readings: &[u32], log: &mut [u32], progress: Progress, bytes: &[u8]) -> usize
+    ensures { λ r. ⌜ WritesReady readings log bytes progress r ⌝ }
+{
+    let count = bytes_that_fit(readings, log, progress, bytes.len());
+    let mut i: usize = 0;
+    while i < count {
+        let next = after_bytes(progress, i);
+        if !wait_for_flag(first_sr1(readings, next), registers::TXE) {
+            return i;
+        }
+        write_at_once(readings, log, next, bytes[i] as u32);
+        i += 1;
+    }
+    i
+}
+
 // The later bytes of a write. The error of a wait is left to the caller.
 fn write_later(
     readings: &[u32],
@@ -148,19 +171,24 @@ fn write_later(
     let limit = setup.data_limit;
     let mut progress = progress;
     let mut i: usize = 0;
-    while i < bytes.len() {
+    loop {
+        let ready = write_ready(readings, log, progress, &bytes[i..]);
+        progress = after_bytes(progress, ready);
+        i += ready;
+        if i == bytes.len() {
+            return Outcome::Well(progress);
+        }
         let w = busy_wait_flag(readings, log, progress, registers::TXE, Source::Data, limit);
-        let Outcome::Well(ready) = w else {
+        let Outcome::Well(waited) = w else {
             return w;
         };
-        let o = registers::write(log, ready, registers::W_DR, bytes[i] as u32);
+        let o = registers::write(log, waited, registers::W_DR, bytes[i] as u32);
         let Outcome::Well(next) = o else {
             return o;
         };
         progress = next;
         i += 1;
     }
-    Outcome::Well(progress)
 }
 
 // The bytes of a write. The error of a wait is left to the caller.

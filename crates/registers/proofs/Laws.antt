@@ -11,14 +11,13 @@ use borrow.Author.Tests.{eq-eqb, ne-eqb, eqb-true, leb-false}
 use Rattle.units.specs.declared.Setup.{Setup}
 use Rattle.registers.specs.declared.Progress.{Progress}
 use Rattle.registers.specs.declared.BusError.{BusError}
-use Rattle.registers.specs.declared.Wanted.{Wanted}
 use Rattle.registers.specs.declared.Cut.{Cut}
 use Rattle.registers.specs.declared.Entry.{Entry}
 use Rattle.registers.specs.Access.{is-read, is-data, cut, CYC, DR, store, entries-in, Ending}
 use Rattle.registers.specs.Machine.{Step, Access, access, next, exec, exec-on, exec-full, perform, no-room}
 use Rattle.registers.specs.State.{State, After, Took, at, going, word, then, taking, entry, recorded, received, replay, room, left, after, resume, read-one, read, write-one, write}
 
-length-store : (lg : List ℕ) (k : ℕ) (e : Entry) → length (store lg k e) ≡ length lg
+pub length-store : (lg : List ℕ) (k : ℕ) (e : Entry) → length (store lg k e) ≡ length lg
 unfolding store
 length-store lg k e = simp length-set
 
@@ -136,7 +135,7 @@ write-unfailed c v st {e} {st′} = go (room st)
 
 -- one access at a state written out
 module _ (rs lg rx : List ℕ) (b : Progress) where
-  pub read-full : (c : ℕ) → entries-in (length lg) ≤ b .made → read c (at rs lg rx b) ≡ Took.cut-short (Cut.NoRecord (Wanted.Read c)) (at rs lg rx b)
+  pub read-full : (c : ℕ) → entries-in (length lg) ≤ b .made → read c (at rs lg rx b) ≡ Took.cut-short (Cut.NoRecord c) (at rs lg rx b)
   unfolding read read-one room left
   read-full c h =
       let e : entries-in (length lg) - b .made ≡ 0 = omega arith in
@@ -157,7 +156,7 @@ module _ (rs lg rx : List ℕ) (b : Progress) where
       let n : entries-in (length lg) - b .made ≡ suc (entries-in (length lg) - b .made - 1) = omega arith in
       rw (n, drop-cons rs (b .used) 0 k, ← e, t, f)
 
-  pub write-full : (c v : ℕ) → entries-in (length lg) ≤ b .made → write c v (at rs lg rx b) ≡ After.cut-short (Cut.NoRecord (Wanted.Write c v)) (at rs lg rx b)
+  pub write-full : (c v : ℕ) → entries-in (length lg) ≤ b .made → write c v (at rs lg rx b) ≡ After.cut-short (Cut.NoRecord c) (at rs lg rx b)
   unfolding write write-one room
   write-full c v h =
       let e : entries-in (length lg) - b .made ≡ 0 = omega arith in

@@ -8,7 +8,6 @@ use lib.Dec.{leb}
 use Rattle.units.specs.declared.Setup.{Setup}
 use Rattle.registers.specs.declared.Source.{Source}
 use Rattle.registers.specs.declared.BusError.{BusError}
-use Rattle.registers.specs.declared.Wanted.{Wanted}
 use Rattle.registers.specs.declared.Cut.{Cut}
 use Rattle.registers.specs.declared.Entry.{Entry}
 use Rattle.registers.specs.declared.Bits.{Bits}
@@ -185,8 +184,8 @@ logged c v r = record { log = record { code = c; value = v } ∷ r .log; ending 
 -- fewer than an entry's words remain: only a step that makes no access can end the call otherwise
 unfoldable pub no-room : Access → Ran
 no-room (halt e) = ended (failed e)
-no-room (read r) = ended (cut-short (Cut.NoRecord (Wanted.Read r)))
-no-room (write r v) = ended (cut-short (Cut.NoRecord (Wanted.Write r v)))
+no-room (read r) = ended (cut-short (Cut.NoRecord r))
+no-room (write r v) = ended (cut-short (Cut.NoRecord r))
 
 -- one access with room for it; `on` runs the rest, given what takes the step's place and the readings left
 unfoldable pub perform : Access → (ℕ → List Step) → List ℕ → (List Step → List ℕ → Ran) → Ran

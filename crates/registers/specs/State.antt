@@ -1,18 +1,17 @@
 -- The state of a run, and what is still to come of it: how the machine's log fills the caller's buffers.
-use Prim.Native.Nat.{ℕ, zero, suc, _+_, _-_}
+use Prim.Native.Nat.{ℕ, zero, suc, _+_, _-_, _*_}
 use mathlib.Core.Bool.{Bool, true, false, cond}
 use mathlib.Core.List.{List, [], _∷_}
-use lib.ListN.{length, set, drop}
+use lib.ListN.{length, set, drop, getD}
 use Rattle.units.specs.declared.Setup.{Setup}
 use Rattle.registers.specs.declared.Source.{Source}
 use Rattle.registers.specs.declared.BusError.{BusError}
-use Rattle.registers.specs.declared.Wanted.{Wanted}
 use Rattle.registers.specs.declared.Cut.{Cut}
 use Rattle.registers.specs.declared.Entry.{Entry}
 use Rattle.registers.specs.declared.Progress.{Progress}
 use Rattle.registers.specs.declared.Flagged.{Flagged}
 use Rattle.registers.specs.Word.{has, BERR}
-use Rattle.registers.specs.Access.{SR1, wSR1, is-read, is-data, cut, low-byte, clear-word, entries-in, store, Ending}
+use Rattle.registers.specs.Access.{SR1, CYC, wSR1, wDR, is-read, is-data, cut, low-byte, clear-word, entries-in, store, Ending}
 use Rattle.registers.specs.Machine.{Step, exec, check-word}
 
 -- the readings, the record, the received buffer, and how far the run has come
@@ -33,6 +32,18 @@ unfoldable pub received : Entry → State → State
 received e (at rs lg rx b) =
     at rs lg (cond (is-data (e .code)) (set rx (b .got) (low-byte (e .value))) rx)
     (record { used = b .used; made = b .made; got = cond (is-data (e .code)) (b .got + 1) (b .got) })
+
+-- so many bytes written, the wait before each over at once: CYC, SR1 and DR
+abbrev pub after-bytes : Progress → ℕ → Progress
+after-bytes b n = record { used = b .used + 2 * n; made = b .made + 3 * n; got = b .got }
+
+-- the record after one
+unfoldable pub store-byte : List ℕ → List ℕ → Progress → ℕ → List ℕ
+store-byte rs lg b byte =
+    store
+    (store (store lg (b .made) (entry CYC (cut CYC (getD rs (b .used) 0)))) (b .made + 1) (entry SR1 (cut SR1 (getD rs (b .used + 1) 0))))
+    (b .made + 2)
+    (entry wDR byte)
 
 -- a log replayed on a state
 unfoldable pub replay : List Entry → State → State
@@ -78,7 +89,7 @@ taking (cut-short c st) k = cut-short c st
 
 -- one read
 unfoldable pub read-one : ℕ → State → List ℕ → ℕ → Took
-read-one c st rs zero = cut-short (Cut.NoRecord (Wanted.Read c)) st
+read-one c st rs zero = cut-short (Cut.NoRecord c) st
 read-one c st [] (suc n) = cut-short Cut.NoReadings st
 read-one c st (v ∷ rs) (suc n) = word (cut c v) (recorded (entry c (cut c v)) st)
 
@@ -87,7 +98,7 @@ read c st = read-one c st (left st) (room st)
 
 -- one write
 unfoldable pub write-one : ℕ → ℕ → State → ℕ → After
-write-one c v st zero = cut-short (Cut.NoRecord (Wanted.Write c v)) st
+write-one c v st zero = cut-short (Cut.NoRecord c) st
 write-one c v st (suc n) = going (recorded (entry c v) st)
 
 unfoldable pub write : ℕ → ℕ → State → After

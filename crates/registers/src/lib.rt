@@ -2,38 +2,39 @@
 ghost use mathlib.Core.Path.{_≡_};
 ghost use mathlib.Core.Bool.{true, false};
 ghost use mathlib.Core.List.{[], _∷_};
-ghost use Prim.Native.Nat.{_+_, _<_, _≤_, _^_};
-ghost use lib.ListN.{length};
+ghost use Prim.Native.Nat.{_+_, _-_, _*_, _<_, _≤_, _^_};
+ghost use lib.ListN.{length, getD};
 ghost use Rattle.units.specs.declared.Setup.{Setup};
 ghost use Rattle.registers.specs.Word.{has, with-bit, without-bit, with-bits, without-bits};
 ghost use lib.Dec.{leb};
-ghost use Rattle.registers.specs.Access.{DR, wSR1, is-read, is-data, entries-in, store, clear-word, number, failed};
+ghost use Rattle.registers.specs.Access.{SR1, DR, wSR1, is-read, is-data, cut, entries-in, store, clear-word, number, failed};
 ghost use Rattle.registers.specs.Machine.{Step};
+ghost use Rattle.registers.specs.State.{after-bytes, store-byte};
 ghost use Rattle.registers.specs.Contract.{outcome-of, checked-of, check-outcome, failed-of, word-of, ending-of, Reads, Writes, Does, Receives};
 
 // Codes of the record: reads.
-pub const SR1: u32 = 1;
+pub const SR1: u8 = 1;
 
-pub const SR2: u32 = 2;
+pub const SR2: u8 = 2;
 
-pub const CR1: u32 = 3;
+pub const CR1: u8 = 3;
 
-pub const DR: u32 = 4;
+pub const DR: u8 = 4;
 
-pub const CYC: u32 = 5;
+pub const CYC: u8 = 5;
 
 // Codes of the record: writes.
-pub const W_CR1: u32 = 11;
+pub const W_CR1: u8 = 11;
 
-pub const W_CR2: u32 = 12;
+pub const W_CR2: u8 = 12;
 
-pub const W_CCR: u32 = 13;
+pub const W_CCR: u8 = 13;
 
-pub const W_TRISE: u32 = 14;
+pub const W_TRISE: u8 = 14;
 
-pub const W_SR1: u32 = 15;
+pub const W_SR1: u8 = 15;
 
-pub const W_DR: u32 = 16;
+pub const W_DR: u8 = 16;
 
 // Bits of SR1, by weight.
 pub const SB: u32 = 0x0001;
@@ -90,16 +91,10 @@ pub enum BusError {
     ArbitrationLoss,
 }
 
-// An access that is wanted: a read of a register, or a write of a value to one.
-pub enum Wanted {
-    Read(u32),
-    Write(u32, u32),
-}
-
-// Why a run was cut short: every reading is used, or too few record words remain for this access.
+// Why a run was cut short: every reading is used, or too few record words remain for an access with this code.
 pub enum Cut {
     NoReadings,
-    NoRecord(Wanted),
+    NoRecord(u8),
 }
 
 // How far a run has come: readings used, accesses made, bytes received.
@@ -214,12 +209,12 @@ fn put_entry(log: &mut [u32], k: usize, entry: Entry)
 }
 
 // One read: the next reading, cut to its register and recorded. Record space is tested before readings.
-pub fn read(readings: &[u32], log: &mut [u32], progress: Progress, code: u32) -> Taken
+pub fn read(readings: &[u32], log: &mut [u32], progress: Progress, code: u8) -> Taken
     requires { ⌜ is-read code ≡ true ⌝ }
     ensures { λ r. ⌜ Reads code readings log progress r ⌝ }
 {
     if full(log, progress) {
-        return Taken::CutShort(Cut::NoRecord(Wanted::Read(code)), progress);
+        return Taken::CutShort(Cut::NoRecord(code), progress);
     }
     let made = progress.made;
     let used = progress.used;
@@ -230,7 +225,14 @@ pub fn read(readings: &[u32], log: &mut [u32], progress: Progress, code: u32) ->
     if code != CYC {
         value = value % 65536;
     }
-    put_entry(log, made, Entry { code, value });
+    put_entry(
+        log,
+        made,
+        Entry {
+            code: code as u32,
+            value,
+        },
+    );
     Taken::Word(
         value,
         Progress {
@@ -242,20 +244,100 @@ pub fn read(readings: &[u32], log: &mut [u32], progress: Progress, code: u32) ->
 }
 
 // One write, recorded.
-pub fn write(log: &mut [u32], progress: Progress, code: u32, value: u32) -> Outcome
+pub fn write(log: &mut [u32], progress: Progress, code: u8, value: u32) -> Outcome
     requires { ⌜ is-read code ≡ false ⌝ }
     ensures { λ r. ⌜ Writes code value log progress r ⌝ }
 {
     if full(log, progress) {
-        return Outcome::CutShort(Cut::NoRecord(Wanted::Write(code, value)), progress);
+        return Outcome::CutShort(Cut::NoRecord(code), progress);
     }
     let made = progress.made;
-    put_entry(log, made, Entry { code, value });
+    put_entry(
+        log,
+        made,
+        Entry {
+            code: code as u32,
+            value,
+        },
+    );
     Outcome::Well(Progress {
         used: progress.used,
         made: made + 1,
         got: progress.got,
     })
+}
+
+// How many of so many bytes fit, each with its wait over at once: CYC, SR1 and DR.
+pub fn bytes_that_fit(readings: &[u32], log: &[u32], progress: Progress, count: usize) -> usize
+    ensures { λ r. ⌜ (r ≤ count) × (2 * r ≤ length (now (readings .entry)) - progress .used) × (3 * r ≤ entries-in (length (now (log .entry))) - progress .made) ⌝ }
+{
+    let entries = log.len() / ENTRY_WORDS;
+    if entries <= progress.made {
+        return 0;
+    }
+    if readings.len() <= progress.used {
+        return 0;
+    }
+    let recorded = (entries - progress.made) / 3;
+    let read = (readings.len() - progress.used) / 2;
+    let fit = if recorded < read { recorded } else { read };
+    if fit < count { fit } else { count }
+}
+
+// How far a run has come after so many such bytes.
+pub fn after_bytes(progress: Progress, count: usize) -> Progress
+    requires { ⌜ (progress .used + 2 * count < 2 ^ 64) × (progress .made + 3 * count < 2 ^ 64) ⌝ }
+    ensures { λ r. ⌜ r ≡ after-bytes progress count ⌝ }
+{
+    Progress {
+        used: progress.used + 2 * count,
+        made: progress.made + 3 * count,
+        got: progress.got,
+    }
+}
+
+// The SR1 word that a wait polls first.
+pub fn first_sr1(readings: &[u32], progress: Progress) -> u32
+    requires { ⌜ progress .used + 1 < length (now readings) ⌝ }
+    ensures { λ r. ⌜ r ≡ cut SR1 (getD (now (readings .entry)) (progress .used + 1) 0) ⌝ }
+{
+    readings[progress.used + 1] % 65536
+}
+
+// A byte whose wait is over at once: CYC, SR1 and DR, all of which fit.
+pub fn write_at_once(readings: &[u32], log: &mut [u32], progress: Progress, byte: u32)
+    requires { ⌜ (progress .used + 1 < length (now readings)) × (progress .made + 2 < entries-in (length (now log))) ⌝ }
+    ensures { λ _. ⌜ now (log .exit) ≡ store-byte (now (readings .entry)) (now (log .entry)) progress byte ⌝ }
+{
+    let made = progress.made;
+    let used = progress.used;
+    // Both before the record is touched, so that neither is loaded twice.
+    let cycles = readings[used];
+    let sr1 = first_sr1(readings, progress);
+    put_entry(
+        log,
+        made,
+        Entry {
+            code: CYC as u32,
+            value: cycles,
+        },
+    );
+    put_entry(
+        log,
+        made + 1,
+        Entry {
+            code: SR1 as u32,
+            value: sr1,
+        },
+    );
+    put_entry(
+        log,
+        made + 2,
+        Entry {
+            code: W_DR as u32,
+            value: byte,
+        },
+    );
 }
 
 // A read for its own sake: the word plays no part.
@@ -312,7 +394,7 @@ pub fn word_of(o: Outcome, word: u32) -> Checked
 }
 
 // A read of any register but DR, for its own sake.
-pub fn get(readings: &[u32], log: &mut [u32], progress: Progress, code: u32) -> Outcome
+pub fn get(readings: &[u32], log: &mut [u32], progress: Progress, code: u8) -> Outcome
     requires { ⌜ (is-read code ≡ true) × (is-data code ≡ false) ⌝ }
     ensures { λ r. ⌜ Does (Step.get code ∷ []) readings log progress r ⌝ }
 {

@@ -55,7 +55,7 @@ fn poll_error(word: u32, awaited: Awaited) -> Flagged
 }
 
 // Whether an SR1 word has this flag and no error flag: one test for all of them.
-fn wait_for_flag(sr1: u32, flag: u32) -> bool
+pub fn wait_for_flag(sr1: u32, flag: u32) -> bool
     requires { ⌜ waited-flag flag ≡ true ⌝ }
     ensures { λ r. ⌜ ((source : Source) → r ≡ over (Awaited.Flag flag source) sr1) ⌝ }
 {
@@ -81,7 +81,7 @@ fn wait_over(word: u32, awaited: Awaited) -> bool
 }
 
 // The register that a poll reads.
-fn polled_register(awaited: Awaited) -> u32
+fn polled_register(awaited: Awaited) -> u8
     ensures { λ r. ⌜ r ≡ polled-register awaited ⌝ }
 {
     match awaited {

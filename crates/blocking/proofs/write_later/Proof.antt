@@ -1,35 +1,18 @@
 use Prim.Native.Nat.{ℕ, _+_, _-_, _<_, _≤_}
 use native.Mathlib.Omega.{arith}
-use native.Mathlib.Numerals.{add-one}
 use mathlib.Core.Path.{_≡_, refl}
 use mathlib.Core.List.{List, [], _∷_}
-use lib.ListN.{length, drop, getD, drop-of-length-le}
-use lib.Seq.{drop-cons}
-use Rattle.units.specs.declared.Cycles.{Cycles}
+use lib.ListN.{length, drop}
 use Rattle.units.specs.declared.Setup.{Setup}
-use Rattle.registers.specs.declared.Source.{Source}
-use Rattle.registers.specs.declared.Awaited.{Awaited}
-use Rattle.registers.specs.Word.{TXE}
-use Rattle.registers.specs.Access.{wDR}
-use Rattle.registers.specs.Machine.{Step, Handler}
 use Rattle.registers.specs.State.{at}
 use Rattle.registers.specs.Contract.{Reaches}
 use Rattle.blocking.specs.Blocking.{later-bytes}
 use Rattle.blocking.proofs.Stops.{wait-stops, nothing-fails, put-unfailing, settles}
+use Rattle.blocking.proofs.Bytes.{next-byte, no-byte, first-of, first-step}
 use Rattle.registers.proofs.Steps.{here, write-step, write-last, rewritten, wait-step, waits-well}
 use borrow.Author.Needs.{needs}
 use Rattle.blocking.proofs.write_later.Statement.{statement}
 use Rattle.blocking.proofs.write_later.Tie as tie
-
--- the next byte; none left
-next-byte : (s : Setup) {limit : Cycles} → s .«data_limit» ≡ limit → (bs : List ℕ) (i : ℕ) → i < length bs
-    → later-bytes s (drop i bs) ≡ Step.timed (Awaited.Flag TXE Source.Data) (limit .0) Handler.stops ∷ Step.put wDR (getD bs i 0) ∷ later-bytes s (drop (i + 1) bs)
-unfolding later-bytes
-next-byte s e bs i h = rw (← e, add-one, drop-cons bs i 0)
-
-no-byte : (s : Setup) (bs : List ℕ) (i : ℕ) → length bs ≤ i → later-bytes s (drop i bs) ≡ []
-unfolding later-bytes
-no-byte s bs i h = rw (drop-of-length-le bs h)
 
 -- the loop knows only the limit, so its steps are those of any settings that have it
 abbrev Inv-loop : tie.InvT-loop
@@ -44,48 +27,92 @@ abbrev μ-loop : tie.MeasureT-loop
 loop-holds : tie.Need-loop-holds Inv-loop μ-loop
 loop-holds c = ((λ s rx e. here), refl, omega arith)
 
+after-bytes-requires : tie.Need-after-bytes-requires Inv-loop μ-loop
+after-bytes-requires c κs = let e = c .before .before .write-ready .ensures in (e .used, e .made)
+
+add-i : tie.Need-add-i Inv-loop μ-loop
+add-i c =
+    let a = c in
+    let r = a .before .before .before in
+    let l = r .before .before .before in
+    let x = l .before .before .before .before .before in
+    omega (arith, first-of (x .args .bytes .now) (l .loop .i) (r .write-ready .ensures), l .loop .inv .2, x)
+
 returns : tie.Need-returns Inv-loop μ-loop
 returns c rx =
-    let at-busy-wait-flag = c .before .before .before in
-    let at-loop-test = at-busy-wait-flag .before .before in
-    let at-loop = at-loop-test .before in
-    wait-stops (at-busy-wait-flag .busy-wait-flag .ensures _ _ rx) _ (rewritten (next-byte _ refl _ _ (at-loop-test .loop-test .taken)) (at-loop .loop .inv .0 _ rx refl))
-    (c .match .keys2)
-
-cast-write : tie.Need-cast-write Inv-loop μ-loop
-cast-write c = omega (arith, c .shared-slice-known3 .given (c .before .before .before .before .before .before .before .before .before .before .loop .i))
+    let a = c .before in
+    let r = a .before .before .before in
+    let l = r .before .before .before in
+    let x = l .before .before .before .before .before in
+    let t : length (x .args .bytes .now) ≤ l .loop .i + r .write-ready .result = omega (arith, c .if1 .taken) in
+    waits-well (rewritten (no-byte _ _ _ t) (first-step _ _ (r .write-ready .ensures) (a .after-bytes .ensures) (l .loop .inv .0 _ rx refl)))
 
 returns-2 : tie.Need-returns-2 Inv-loop μ-loop
 returns-2 c rx =
-    let at-write = c .before .before .before in
-    let at-w = at-write .before .before .before .before in
-    let at-busy-wait-flag = at-w .before .before .before .before in
-    let at-loop-test = at-busy-wait-flag .before .before in
-    let at-loop = at-loop-test .before in
-    wait-stops (settles (put-unfailing _ _ refl nothing-fails) (write-last here (at-write .write .ensures _ rx) refl)) _
-    (wait-step (at-busy-wait-flag .busy-wait-flag .ensures _ _ rx) _ (rewritten (next-byte _ refl _ _ (at-loop-test .loop-test .taken)) (at-loop .loop .inv .0 _ rx refl))
-    (at-w .w .given .1))
+    let a = c .before .before .before .before .before .before in
+    let r = a .before .before .before in
+    let l = r .before .before .before in
+    let x = l .before .before .before .before .before in
+    let t : l .loop .i + r .write-ready .result < length (x .args .bytes .now) = omega (arith, c .before .before .before .before .before .if1 .left, first-of (x .args .bytes .now) (l .loop .i) (r .write-ready .ensures), l .loop .inv .2) in
+    wait-stops (c .before .before .before .busy-wait-flag .ensures _ _ rx) _ (rewritten (next-byte _ refl _ _ t) (first-step _ _ (r .write-ready .ensures) (a .after-bytes .ensures) (l .loop .inv .0 _ rx refl))) (c .match .keys2)
+
+shared-slice-read-write : tie.Need-shared-slice-read-write Inv-loop μ-loop
+shared-slice-read-write c =
+    let a = c .before .before .before .before .before .before .before .before .before .before in
+    let r = a .before .before .before in
+    let l = r .before .before .before in
+    let x = l .before .before .before .before .before in
+    let t : l .loop .i + r .write-ready .result < length (x .args .bytes .now) = omega (arith, c .before .before .before .before .before .before .before .before .before .if1 .left, first-of (x .args .bytes .now) (l .loop .i) (r .write-ready .ensures), l .loop .inv .2) in
+    t
+
+cast-write : tie.Need-cast-write Inv-loop μ-loop
+cast-write c =
+    let a = c .before .before .before .before .before .before .before .before .before .before in
+    let r = a .before .before .before in
+    let l = r .before .before .before in
+    let x = l .before .before .before .before .before in
+    omega (arith, c .shared-slice-known3 .given (l .loop .i + r .write-ready .result))
+
+returns-3 : tie.Need-returns-3 Inv-loop μ-loop
+returns-3 c rx =
+    let a = c .before .before .before .before .before .before .before .before .before .before .before .before .before .before in
+    let r = a .before .before .before in
+    let l = r .before .before .before in
+    let x = l .before .before .before .before .before in
+    let t : l .loop .i + r .write-ready .result < length (x .args .bytes .now) = omega (arith, c .before .before .before .before .before .before .before .before .before .before .before .before .before .if1 .left, first-of (x .args .bytes .now) (l .loop .i) (r .write-ready .ensures), l .loop .inv .2) in
+    wait-stops (settles (put-unfailing _ _ refl nothing-fails) (write-last here (c .before .before .before .write .ensures _ rx) refl)) _
+    (wait-step (c .before .before .before .before .before .before .before .before .before .before .before .busy-wait-flag .ensures _ _ rx) _ (rewritten (next-byte _ refl _ _ t) (first-step _ _ (r .write-ready .ensures) (a .after-bytes .ensures) (l .loop .inv .0 _ rx refl))) (c .before .before .before .before .before .before .before .w .given .1))
     (c .match2 .keys2)
 
-add-i : tie.Need-add-i Inv-loop μ-loop
-add-i c = omega (arith, c .before .before .before .before .before .before .before .before .before .before .before .before .before .before .before)
+add-i-2 : tie.Need-add-i-2 Inv-loop μ-loop
+add-i-2 c =
+    let a = c .before .before .before .before .before .before .before .before .before .before .before .before .before .before .before .before in
+    let r = a .before .before .before in
+    let l = r .before .before .before in
+    let x = l .before .before .before .before .before in
+    let t : l .loop .i + r .write-ready .result < length (x .args .bytes .now) = omega (arith, c .before .before .before .before .before .before .before .before .before .before .before .before .before .before .before .if1 .left, first-of (x .args .bytes .now) (l .loop .i) (r .write-ready .ensures), l .loop .inv .2) in
+    omega (arith, t, x)
+
+loop-less : tie.Need-loop-less Inv-loop μ-loop
+loop-less c =
+    let a = c .before .before .before .before .before .before .before .before .before .before .before .before .before .before .before .before in
+    let r = a .before .before .before in
+    let l = r .before .before .before in
+    let x = l .before .before .before .before .before in
+    let t : l .loop .i + r .write-ready .result < length (x .args .bytes .now) = omega (arith, c .before .before .before .before .before .before .before .before .before .before .before .before .before .before .before .if1 .left, first-of (x .args .bytes .now) (l .loop .i) (r .write-ready .ensures), l .loop .inv .2) in
+    omega (arith, t)
 
 loop-again : tie.Need-loop-again Inv-loop μ-loop
 loop-again c =
-    let at-write = c .before .before .before .before .before in
-    let at-w = at-write .before .before .before .before in
-    let at-busy-wait-flag = at-w .before .before .before .before in
-    let at-loop-test = at-busy-wait-flag .before .before in
-    let at-loop = at-loop-test .before in (
-      (λ s rx e. write-step (wait-step (at-busy-wait-flag .busy-wait-flag .ensures s _ rx) _
-          (rewritten (next-byte s e _ _ (at-loop-test .loop-test .taken)) (at-loop .loop .inv .0 s rx e)) (at-w .w .given .1)) (at-write .write .ensures _ rx) refl
-          (c .before .o .given .1)),
-      omega (arith, at-busy-wait-flag .busy-wait-flag .kept, at-write .write .kept),
-      omega arith,
+    let a = c .before .before .before .before .before .before .before .before .before .before .before .before .before .before .before .before in
+    let r = a .before .before .before in
+    let l = r .before .before .before in
+    let x = l .before .before .before .before .before in
+    let t : l .loop .i + r .write-ready .result < length (x .args .bytes .now) = omega (arith, c .before .before .before .before .before .before .before .before .before .before .before .before .before .before .before .if1 .left, first-of (x .args .bytes .now) (l .loop .i) (r .write-ready .ensures), l .loop .inv .2) in (
+      (λ s rx e. write-step (wait-step (c .before .before .before .before .before .before .before .before .before .before .before .before .before .busy-wait-flag .ensures s _ rx) _ (rewritten (next-byte s e _ _ t) (first-step _ _ (r .write-ready .ensures) (a .after-bytes .ensures) (l .loop .inv .0 s rx e))) (c .before .before .before .before .before .before .before .before .before .w .given .1)) (c .before .before .before .before .before .write .ensures _ rx) refl (c .before .o .given .1)),
+      omega (arith, l .loop .inv .1, r .write-ready .kept, c .before .before .before .before .before .before .before .before .before .before .before .before .before .busy-wait-flag .kept, c .before .before .before .before .before .write .kept),
+      omega (arith, t),
     )
-
-returns-3 : tie.Need-returns-3 Inv-loop μ-loop
-returns-3 c rx = waits-well (rewritten (no-byte _ _ _ (c .loop-test .left)) (c .before .loop .inv .0 _ rx refl))
 
 pub write-later-spec : {M : Type 1} → statement M
 write-later-spec =
@@ -94,18 +121,24 @@ write-later-spec =
     Inv-loop
     μ-loop
     loop-holds
-    (λ c κs. search needs)
     (λ c. search needs)
+    (λ c. search needs)
+    (λ c. search needs)
+    (λ c κs. search needs)
+    after-bytes-requires
+    add-i
     (λ c. search needs)
     returns
-    (λ c. search needs)
-    cast-write
     (λ c κs. search needs)
     (λ c. search needs)
     (λ c. search needs)
     returns-2
-    add-i
+    shared-slice-read-write
+    cast-write
+    (λ c κs. search needs)
     (λ c. search needs)
-    loop-again
     (λ c. search needs)
-    returns-3)
+    returns-3
+    add-i-2
+    loop-less
+    loop-again)

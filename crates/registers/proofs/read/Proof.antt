@@ -16,8 +16,8 @@ returns-2 c rx = record { is = sym (read-empty _ _ _ _ _ (leb-false _ _ (sym (c 
 put-entry-requires : tie.Need-put-entry-requires
 put-entry-requires c κs = leb-false _ _ (sym (c .before .before .before .before .before .full .ensures) ∙ c .before .before .before .before .if1 .left)
 
-add-t22 : tie.Need-add-t22
-add-t22 c =
+add-t21 : tie.Need-add-t21
+add-t21 c =
     let at-if1 = c .before .before .before .before .before .before .before in
     let at-full = at-if1 .before in
     let e = sym (at-full .full .ensures) ∙ at-if1 .if1 .left in omega (arith, leb-false)
@@ -33,7 +33,8 @@ returns-3 c rx =
     let at-start = at-full .before .before .before .before in
     record {
       is = read-done _ _ _ _ _ _ _ (at-start .pre) (leb-false _ _ (sym (at-full .full .ensures) ∙ at-if1 .if1 .left)) (at-if2 .if2 .left)
-          (⊎-elim (λ w. w .1 ∙ cut-register _ _ (w .0 .taken)) (λ w. w .1 ∙ cut-cycles _ _ (w .0 .left) (at-shared-slice-known2 .shared-slice-known2 .given _ .fits)) (at-if3 .if3 .came))
+          (⊎-elim (λ w. w .1 ∙ cut-register _ _ (w .0 .taken)) (λ w. w .1 ∙ cut-cycles _ _ (w .0 .left) (at-shared-slice-known2 .shared-slice-known2 .given _ .fits))
+          (at-if3 .if3 .came))
           (at-put-entry .put-entry .ensures);
     }
 
@@ -50,6 +51,6 @@ read-spec =
     (λ c. search needs)
     put-entry-requires
     (λ c. search needs)
-    add-t22
+    add-t21
     (λ c. search needs)
     returns-3)
