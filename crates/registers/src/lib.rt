@@ -13,28 +13,28 @@ ghost use Rattle.registers.specs.State.{after-bytes, store-byte};
 ghost use Rattle.registers.specs.Contract.{outcome-of, checked-of, check-outcome, failed-of, word-of, ending-of, Reads, Writes, Does, Receives};
 
 // Codes of the record: reads.
-pub const SR1: u8 = 1;
+pub const SR1: u32 = 1;
 
-pub const SR2: u8 = 2;
+pub const SR2: u32 = 2;
 
-pub const CR1: u8 = 3;
+pub const CR1: u32 = 3;
 
-pub const DR: u8 = 4;
+pub const DR: u32 = 4;
 
-pub const CYC: u8 = 5;
+pub const CYC: u32 = 5;
 
 // Codes of the record: writes.
-pub const W_CR1: u8 = 11;
+pub const W_CR1: u32 = 11;
 
-pub const W_CR2: u8 = 12;
+pub const W_CR2: u32 = 12;
 
-pub const W_CCR: u8 = 13;
+pub const W_CCR: u32 = 13;
 
-pub const W_TRISE: u8 = 14;
+pub const W_TRISE: u32 = 14;
 
-pub const W_SR1: u8 = 15;
+pub const W_SR1: u32 = 15;
 
-pub const W_DR: u8 = 16;
+pub const W_DR: u32 = 16;
 
 // Bits of SR1, by weight.
 pub const SB: u32 = 0x0001;
@@ -209,12 +209,12 @@ fn put_entry(log: &mut [u32], k: usize, entry: Entry)
 }
 
 // One read: the next reading, cut to its register and recorded. Record space is tested before readings.
-pub fn read(readings: &[u32], log: &mut [u32], progress: Progress, code: u8) -> Taken
+pub fn read(readings: &[u32], log: &mut [u32], progress: Progress, code: u32) -> Taken
     requires { ⌜ is-read code ≡ true ⌝ }
     ensures { λ r. ⌜ Reads code readings log progress r ⌝ }
 {
     if full(log, progress) {
-        return Taken::CutShort(Cut::NoRecord(code), progress);
+        return Taken::CutShort(Cut::NoRecord(code as u8), progress);
     }
     let made = progress.made;
     let used = progress.used;
@@ -225,14 +225,7 @@ pub fn read(readings: &[u32], log: &mut [u32], progress: Progress, code: u8) -> 
     if code != CYC {
         value = value % 65536;
     }
-    put_entry(
-        log,
-        made,
-        Entry {
-            code: code as u32,
-            value,
-        },
-    );
+    put_entry(log, made, Entry { code, value });
     Taken::Word(
         value,
         Progress {
@@ -244,22 +237,15 @@ pub fn read(readings: &[u32], log: &mut [u32], progress: Progress, code: u8) -> 
 }
 
 // One write, recorded.
-pub fn write(log: &mut [u32], progress: Progress, code: u8, value: u32) -> Outcome
-    requires { ⌜ is-read code ≡ false ⌝ }
+pub fn write(log: &mut [u32], progress: Progress, code: u32, value: u32) -> Outcome
+    requires { ⌜ (is-read code ≡ false) × (code < 256) ⌝ }
     ensures { λ r. ⌜ Writes code value log progress r ⌝ }
 {
     if full(log, progress) {
-        return Outcome::CutShort(Cut::NoRecord(code), progress);
+        return Outcome::CutShort(Cut::NoRecord(code as u8), progress);
     }
     let made = progress.made;
-    put_entry(
-        log,
-        made,
-        Entry {
-            code: code as u32,
-            value,
-        },
-    );
+    put_entry(log, made, Entry { code, value });
     Outcome::Well(Progress {
         used: progress.used,
         made: made + 1,
@@ -318,7 +304,7 @@ pub fn write_at_once(readings: &[u32], log: &mut [u32], progress: Progress, byte
         log,
         made,
         Entry {
-            code: CYC as u32,
+            code: CYC,
             value: cycles,
         },
     );
@@ -326,7 +312,7 @@ pub fn write_at_once(readings: &[u32], log: &mut [u32], progress: Progress, byte
         log,
         made + 1,
         Entry {
-            code: SR1 as u32,
+            code: SR1,
             value: sr1,
         },
     );
@@ -334,7 +320,7 @@ pub fn write_at_once(readings: &[u32], log: &mut [u32], progress: Progress, byte
         log,
         made + 2,
         Entry {
-            code: W_DR as u32,
+            code: W_DR,
             value: byte,
         },
     );
@@ -394,7 +380,7 @@ pub fn word_of(o: Outcome, word: u32) -> Checked
 }
 
 // A read of any register but DR, for its own sake.
-pub fn get(readings: &[u32], log: &mut [u32], progress: Progress, code: u8) -> Outcome
+pub fn get(readings: &[u32], log: &mut [u32], progress: Progress, code: u32) -> Outcome
     requires { ⌜ (is-read code ≡ true) × (is-data code ≡ false) ⌝ }
     ensures { λ r. ⌜ Does (Step.get code ∷ []) readings log progress r ⌝ }
 {

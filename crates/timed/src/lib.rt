@@ -81,7 +81,7 @@ fn wait_over(word: u32, awaited: Awaited) -> bool
 }
 
 // The register that a poll reads.
-fn polled_register(awaited: Awaited) -> u8
+fn polled_register(awaited: Awaited) -> u32
     ensures { λ r. ⌜ r ≡ polled-register awaited ⌝ }
 {
     match awaited {

@@ -10,14 +10,19 @@ use Rattle.registers.proofs.read.Tie as tie
 returns : tie.Need-returns
 returns c rx = record { is = sym (read-full _ _ _ _ _ (leb-true _ _ (sym (c .before .full .ensures) ∙ c .if1 .taken))) }
 
+cast-t11 : tie.Need-cast-t11
+cast-t11 c =
+    let at-start = c .before .before .before .before .before in
+    record { fits = omega (arith, leb-true (at-start .args .code) 5 (at-start .pre)) }
+
 returns-2 : tie.Need-returns-2
 returns-2 c rx = record { is = sym (read-empty _ _ _ _ _ (leb-false _ _ (sym (c .before .before .full .ensures) ∙ c .before .if1 .left)) (c .if2 .taken)) }
 
 put-entry-requires : tie.Need-put-entry-requires
 put-entry-requires c κs = leb-false _ _ (sym (c .before .before .before .before .before .full .ensures) ∙ c .before .before .before .before .if1 .left)
 
-add-t21 : tie.Need-add-t21
-add-t21 c =
+add-t22 : tie.Need-add-t22
+add-t22 c =
     let at-if1 = c .before .before .before .before .before .before .before in
     let at-full = at-if1 .before in
     let e = sym (at-full .full .ensures) ∙ at-if1 .if1 .left in omega (arith, leb-false)
@@ -43,6 +48,7 @@ read-spec =
     tie.close
     (tie.spec
     (λ c κs. search needs)
+    cast-t11
     (λ c. search needs)
     returns
     (λ c. search needs)
@@ -51,6 +57,6 @@ read-spec =
     (λ c. search needs)
     put-entry-requires
     (λ c. search needs)
-    add-t21
+    add-t22
     (λ c. search needs)
     returns-3)
