@@ -54,7 +54,8 @@ returns-2 c rx =
     let l = r .before .before .before in
     let x = l .before .before .before .before .before in
     let t : l .loop .i + r .write-ready .result < length (x .args .bytes .now) = omega (arith, c .before .before .before .before .before .if1 .left, first-of (x .args .bytes .now) (l .loop .i) (r .write-ready .ensures), l .loop .inv .2) in
-    wait-stops (c .before .before .before .busy-wait-flag .ensures _ _ rx) _ (rewritten (next-byte _ refl _ _ t) (first-step _ _ (r .write-ready .ensures) (a .after-bytes .ensures) (l .loop .inv .0 _ rx refl))) (c .match .keys2)
+    wait-stops (c .before .before .before .busy-wait-flag .ensures _ _ rx) _
+    (rewritten (next-byte _ refl _ _ t) (first-step _ _ (r .write-ready .ensures) (a .after-bytes .ensures) (l .loop .inv .0 _ rx refl))) (c .match .keys2)
 
 shared-slice-read-write : tie.Need-shared-slice-read-write Inv-loop μ-loop
 shared-slice-read-write c =
@@ -81,7 +82,9 @@ returns-3 c rx =
     let x = l .before .before .before .before .before in
     let t : l .loop .i + r .write-ready .result < length (x .args .bytes .now) = omega (arith, c .before .before .before .before .before .before .before .before .before .before .before .before .before .if1 .left, first-of (x .args .bytes .now) (l .loop .i) (r .write-ready .ensures), l .loop .inv .2) in
     wait-stops (settles (put-unfailing _ _ refl nothing-fails) (write-last here (c .before .before .before .write .ensures _ rx) refl)) _
-    (wait-step (c .before .before .before .before .before .before .before .before .before .before .before .busy-wait-flag .ensures _ _ rx) _ (rewritten (next-byte _ refl _ _ t) (first-step _ _ (r .write-ready .ensures) (a .after-bytes .ensures) (l .loop .inv .0 _ rx refl))) (c .before .before .before .before .before .before .before .w .given .1))
+    (wait-step (c .before .before .before .before .before .before .before .before .before .before .before .busy-wait-flag .ensures _ _ rx) _
+    (rewritten (next-byte _ refl _ _ t) (first-step _ _ (r .write-ready .ensures) (a .after-bytes .ensures) (l .loop .inv .0 _ rx refl)))
+    (c .before .before .before .before .before .before .before .w .given .1))
     (c .match2 .keys2)
 
 add-i-2 : tie.Need-add-i-2 Inv-loop μ-loop
@@ -109,7 +112,10 @@ loop-again c =
     let l = r .before .before .before in
     let x = l .before .before .before .before .before in
     let t : l .loop .i + r .write-ready .result < length (x .args .bytes .now) = omega (arith, c .before .before .before .before .before .before .before .before .before .before .before .before .before .before .before .if1 .left, first-of (x .args .bytes .now) (l .loop .i) (r .write-ready .ensures), l .loop .inv .2) in (
-      (λ s rx e. write-step (wait-step (c .before .before .before .before .before .before .before .before .before .before .before .before .before .busy-wait-flag .ensures s _ rx) _ (rewritten (next-byte s e _ _ t) (first-step _ _ (r .write-ready .ensures) (a .after-bytes .ensures) (l .loop .inv .0 s rx e))) (c .before .before .before .before .before .before .before .before .before .w .given .1)) (c .before .before .before .before .before .write .ensures _ rx) refl (c .before .o .given .1)),
+      (λ s rx e. write-step (wait-step (c .before .before .before .before .before .before .before .before .before .before .before .before .before .busy-wait-flag .ensures s _ rx) _
+          (rewritten (next-byte s e _ _ t) (first-step _ _ (r .write-ready .ensures) (a .after-bytes .ensures) (l .loop .inv .0 s rx e)))
+          (c .before .before .before .before .before .before .before .before .before .w .given .1)) (c .before .before .before .before .before .write .ensures _ rx) refl
+          (c .before .o .given .1)),
       omega (arith, l .loop .inv .1, r .write-ready .kept, c .before .before .before .before .before .before .before .before .before .before .before .before .before .busy-wait-flag .kept, c .before .before .before .before .before .write .kept),
       omega (arith, t),
     )

@@ -32,7 +32,8 @@ after-bytes-requires c κs =
     (omega (arith, c .loop-test .taken, e .1, c .before .before .before .before .before .before .before), omega (arith, c .loop-test .taken, e .2, c .before .before .before .before .before .before .before))
 
 first-sr1-requires : tie.Need-first-sr1-requires Inv-loop μ-loop
-first-sr1-requires c κs = omega (arith, ap (λ (z : Progress). z .used) (c .after-bytes .ensures), c .before .loop-test .taken, c .before .before .before .bytes-that-fit .ensures .1)
+first-sr1-requires c κs =
+    omega (arith, ap (λ (z : Progress). z .used) (c .after-bytes .ensures), c .before .loop-test .taken, c .before .before .before .bytes-that-fit .ensures .1)
 
 wait-for-flag-requires : tie.Need-wait-for-flag-requires Inv-loop μ-loop
 wait-for-flag-requires c κs = refl
@@ -52,7 +53,8 @@ returns c =
     }
 
 shared-slice-read-write-at-once : tie.Need-shared-slice-read-write-at-once Inv-loop μ-loop
-shared-slice-read-write-at-once c = omega (arith, c .before .before .before .before .before .before .loop-test .taken, c .before .before .before .before .before .before .before .before .bytes-that-fit .ensures .0)
+shared-slice-read-write-at-once c =
+    omega (arith, c .before .before .before .before .before .before .loop-test .taken, c .before .before .before .before .before .before .before .before .bytes-that-fit .ensures .0)
 
 cast-write-at-once : tie.Need-cast-write-at-once Inv-loop μ-loop
 cast-write-at-once c = omega (arith, c .shared-slice-known3 .given (c .before .before .before .before .before .before .before .loop .i))
@@ -60,8 +62,11 @@ cast-write-at-once c = omega (arith, c .shared-slice-known3 .given (c .before .b
 write-at-once-requires : tie.Need-write-at-once-requires Inv-loop μ-loop
 write-at-once-requires c κs =
     let a = c .before .before .before .before .before .after-bytes .ensures in
-    let e = c .before .before .before .before .before .before .before .before .bytes-that-fit .ensures in
-    (omega (arith, ap (λ (z : Progress). z .used) a, c .before .before .before .before .before .before .loop-test .taken, e .1), omega (arith, ap (λ (z : Progress). z .made) a, c .before .before .before .before .before .before .loop-test .taken, e .2, c .before .before .before .before .before .before .before .loop .inv .1))
+    let e = c .before .before .before .before .before .before .before .before .bytes-that-fit .ensures in (
+      omega (arith, ap (λ (z : Progress). z .used) a, c .before .before .before .before .before .before .loop-test .taken, e .1),
+      omega
+          (arith, ap (λ (z : Progress). z .made) a, c .before .before .before .before .before .before .loop-test .taken, e .2, c .before .before .before .before .before .before .before .loop .inv .1),
+    )
 
 add-i : tie.Need-add-i Inv-loop μ-loop
 add-i c = search needs
@@ -78,7 +83,10 @@ loop-again c =
     let l = c .before .before .before .before .before .before .before .before .before .before .loop in
     let i = l .inv in
     let t = c .before .before .before .before .before .before .before .before .before .loop-test .taken in (
-      (λ s rx. rw (w .write-at-once .ensures, a .after-bytes .ensures) (byte-at-once s _ (x .readings .now) _ rx (x .progress) (l .i) (omega (arith, t, e .0)) (omega (arith, t, e .1)) (omega (arith, t, e .2, i .1)) (over-at-once (x .readings .now) (x .progress) (l .i) (a .after-bytes .ensures) (c .before .before .before .before .before .before .before .first-sr1 .ensures) (c .before .before .before .before .before .before .wait-for-flag .ensures) (not-false _ (c .before .before .before .before .before .if1 .left))) (i .0 s rx))),
+      (λ s rx. rw (w .write-at-once .ensures, a .after-bytes .ensures)
+          (byte-at-once s _ (x .readings .now) _ rx (x .progress) (l .i) (omega (arith, t, e .0)) (omega (arith, t, e .1)) (omega (arith, t, e .2, i .1))
+          (over-at-once (x .readings .now) (x .progress) (l .i) (a .after-bytes .ensures) (c .before .before .before .before .before .before .before .first-sr1 .ensures)
+          (c .before .before .before .before .before .before .wait-for-flag .ensures) (not-false _ (c .before .before .before .before .before .if1 .left))) (i .0 s rx))),
       omega (arith, i .1, w .write-at-once .kept),
       omega (arith, t),
     )
