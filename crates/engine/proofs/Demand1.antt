@@ -20,7 +20,7 @@ use Rattle.engine.specs.Calls.{steps-of}
 use Rattle.engine.specs.Run.{result, filled}
 use Rattle.engine.specs.Demand1.{is-cause, answer, answered, LacksReading, Demand1}
 use Rattle.engine.proofs.Shape.{All, none, more}
-use Rattle.engine.proofs.Goes.{Goes, done, halted, full, lacks, wrote, took, error-number, cut-number, whole-goes, goes-room}
+use Rattle.engine.proofs.Goes.{Goes, done, halted, full, lacks, wrote, took, error-number, shortage-number, whole-goes, goes-room}
 use Rattle.engine.proofs.Received.{received-fits}
 use Rattle.engine.proofs.Result.{run-of-calls, accepted-is, refused-is}
 
@@ -29,7 +29,7 @@ number-small : (e : Ending) → number e ≤ 10
 unfolding number
 number-small Ending.well = omega arith
 number-small (Ending.failed e) = omega (arith, error-number e)
-number-small (Ending.cut-short c) = cut-number c .1
+number-small (Ending.cut-short c) = shortage-number c .1
 
 -- the first cause is one of the causes, or 0
 first-is-cause : {cs : List Cause} → All (λ c. is-cause (c .number) ≡ true) cs → (first-cause cs ≡ 0 → ⊥) → is-cause (first-cause cs) ≡ true
@@ -67,7 +67,7 @@ taken-write c v es rs t h = record { answers = rw (t, h .answers); enough = rw t
 goes-taken : {s : Setup} {p : List Step} {n : ℕ} {rs : List ℕ} {l : List Entry} {e : Ending} → Goes s p n rs l e → Taken l rs
 goes-taken done = taken-none _
 goes-taken (halted e a) = taken-none _
-goes-taken (full a z) = taken-none _
+goes-taken (full a k) = taken-none _
 goes-taken (lacks r a t) = taken-none _
 goes-taken (wrote r v a t g) = taken-write r v _ _ t (goes-taken g)
 goes-taken (took r w a t g) = taken-read r w _ _ t (goes-taken g)
@@ -77,7 +77,7 @@ goes-full : {s : Setup} {p : List Step} {n : ℕ} {rs : List ℕ} {l : List Entr
 unfolding number
 goes-full done z = absurd (omega arith)
 goes-full (halted e a) z = absurd (omega (arith, error-number e))
-goes-full (full a h) z = refl
+goes-full (full a k) z = refl
 goes-full (lacks r a t) z = absurd (omega arith)
 goes-full (wrote r v a t g) z = ap suc (goes-full g z)
 goes-full (took r w a t g) z = ap suc (goes-full g z)
@@ -89,7 +89,7 @@ goes-log (done {n = zero}) = refl
 goes-log (done {n = suc n}) = refl
 goes-log (halted {n = zero} e a) = rw a
 goes-log (halted {n = suc n} e a) = rw a
-goes-log (full a z) = rw a
+goes-log (full a k) = rw k
 goes-log (lacks r a t) = rw a
 goes-log (wrote r v a t g) = rw (a, goes-log g)
 goes-log (took r w a t g) = rw (a, goes-log g)
@@ -115,7 +115,7 @@ goes-lacks : {s : Setup} {p : List Step} {n : ℕ} {rs : List ℕ} {l : List Ent
 unfolding number reads exec exec-on perform
 goes-lacks done z = absurd (omega arith)
 goes-lacks (halted e a) z = absurd (omega (arith, error-number e))
-goes-lacks (full a h) z = absurd (omega arith)
+goes-lacks (full a k) z = absurd (omega arith)
 goes-lacks (lacks r a t) z = record { all-used = refl; fits = omega arith; code = r; of-read = t; next = λ w. rw a }
 goes-lacks (wrote r v a t g) z = let k = goes-lacks g z in lacks-more _ k (rw t (omega (arith, k .all-used))) (λ w. rw a)
 goes-lacks (took r v a t g) z = let k = goes-lacks g z in lacks-more _ k (rw t (omega (arith, k .all-used))) (λ w. rw a)
@@ -135,7 +135,7 @@ run-counted s (c ∷ cs) n rs = go (exec s n c rs .log) (exec s n c rs .ending) 
         → let r = after-call l e r in Counted (suc (length cs)) (r .ending) (r .calls) (r .begun)
     go l Ending.well r k = record { low = omega (arith, k .low); high = omega (arith, k .high); all = λ z. ap suc (k .all z) }
     go l (Ending.failed e) r k = record { low = omega arith; high = omega arith; all = λ z. absurd (omega (arith, error-number e)) }
-    go l (Ending.cut-short c) r k = record { low = omega arith; high = omega arith; all = λ z. absurd (omega (arith, cut-number c)) }
+    go l (Ending.cut-short c) r k = record { low = omega arith; high = omega arith; all = λ z. absurd (omega (arith, shortage-number c)) }
 
 whole-counted : (s : Setup) (cs : List (List Step)) (n : ℕ) (rs : List ℕ) → let r = whole-run s cs n rs in Counted (length cs) (r .ending) (r .calls) (r .log .begun)
 unfolding whole-run after-bring-up
@@ -145,7 +145,7 @@ whole-counted s cs n rs = go (exec s n (bring-up s) rs .log) (exec s n (bring-up
         → let r = after-bring-up l e r in Counted (length cs) (r .ending) (r .calls) (r .log .begun)
     go l Ending.well r k = k
     go l (Ending.failed e) r k = record { low = omega arith; high = omega arith; all = λ z. absurd (omega (arith, error-number e)) }
-    go l (Ending.cut-short c) r k = record { low = omega arith; high = omega arith; all = λ z. absurd (omega (arith, cut-number c)) }
+    go l (Ending.cut-short c) r k = record { low = omega arith; high = omega arith; all = λ z. absurd (omega (arith, shortage-number c)) }
 
 -- demand 1, of an accepted list and of a refused one
 module _ (list readings : List ℕ) (rx words : ℕ) where

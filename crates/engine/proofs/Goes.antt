@@ -12,23 +12,21 @@ use Rattle.units.specs.declared.Setup.{Setup}
 use Rattle.buslist.specs.Meaning.{Operation, write, read, Call}
 use Rattle.registers.specs.declared.Source.{Source}
 use Rattle.registers.specs.declared.BusError.{BusError}
-use Rattle.registers.specs.declared.Cut.{Cut}
 use Rattle.registers.specs.declared.Entry.{Entry}
-use Rattle.registers.specs.Access.{Ending, is-read, cut, reads, number}
-use Rattle.registers.specs.Machine.{Step, Access, access, next, perform, no-room, ended, exec, exec-on, exec-full, bring-up, Run, run, after-call, flat, after-bring-up, whole-run}
+use Rattle.registers.specs.Access.{Access, Shortage, Ending, is-read, cut, reads, number}
+use Rattle.registers.specs.Machine.{Step, Act, access, next, perform, no-room, ended, exec, exec-on, exec-full, bring-up, Run, run, after-call, flat, after-bring-up, whole-run}
 use Rattle.engine.specs.Calls.{steps-of}
 use Rattle.engine.proofs.Plan.{Weights, total, total-append, after-access, bring-up-none, times, reads-together, steps-total}
 
 -- steps with this room and these readings log so and end so
 pub data Goes (s : Setup) : List Step → ℕ → List ℕ → List Entry → Ending → Type 0 where
   done : {n : ℕ} {rs : List ℕ} → Goes s [] n rs [] Ending.well
-  halted : {i : Step} {p : List Step} {n : ℕ} {rs : List ℕ} (e : BusError) → access i ≡ Access.halt e → Goes s (i ∷ p) n rs [] (Ending.failed e)
-  full : {i : Step} {p : List Step} {rs : List ℕ} {c : Cut} → no-room (access i) ≡ ended (Ending.cut-short c) → number (Ending.cut-short c) ≡ 10
-      → Goes s (i ∷ p) 0 rs [] (Ending.cut-short c)
-  lacks : {i : Step} {p : List Step} {n : ℕ} (r : ℕ) → access i ≡ Access.read r → is-read r ≡ true → Goes s (i ∷ p) (suc n) [] [] (Ending.cut-short Cut.NoReadings)
-  wrote : {i : Step} {p : List Step} {n : ℕ} {rs : List ℕ} {l : List Entry} {e : Ending} (r v : ℕ) → access i ≡ Access.write r v → is-read r ≡ false
+  halted : {i : Step} {p : List Step} {n : ℕ} {rs : List ℕ} (e : BusError) → access i ≡ Act.halt e → Goes s (i ∷ p) n rs [] (Ending.failed e)
+  full : {i : Step} {p : List Step} {rs : List ℕ} (a : Access) → access i ≡ Act.make a → Goes s (i ∷ p) 0 rs [] (Ending.cut-short (Shortage.no-record a))
+  lacks : {i : Step} {p : List Step} {n : ℕ} (r : ℕ) → access i ≡ Act.make (Access.read r) → is-read r ≡ true → Goes s (i ∷ p) (suc n) [] [] (Ending.cut-short Shortage.no-readings)
+  wrote : {i : Step} {p : List Step} {n : ℕ} {rs : List ℕ} {l : List Entry} {e : Ending} (r v : ℕ) → access i ≡ Act.make (Access.write r v) → is-read r ≡ false
       → Goes s (next s i v ++ p) n rs l e → Goes s (i ∷ p) (suc n) rs (record { code = r; value = v } ∷ l) e
-  took : {i : Step} {p : List Step} {n : ℕ} {rs : List ℕ} {l : List Entry} {e : Ending} (r w : ℕ) → access i ≡ Access.read r → is-read r ≡ true
+  took : {i : Step} {p : List Step} {n : ℕ} {rs : List ℕ} {l : List Entry} {e : Ending} (r w : ℕ) → access i ≡ Act.make (Access.read r) → is-read r ≡ true
       → Goes s (next s i (cut r w) ++ p) n rs l e → Goes s (i ∷ p) (suc n) (w ∷ rs) (record { code = r; value = cut r w } ∷ l) e
 
 -- a write with a read's code, or a read with a write's, weighs 1
@@ -58,23 +56,22 @@ unfolding exec exec-on exec-full perform no-room number
 exec-goes s zero [] rs h = done
 exec-goes s zero (i ∷ p) rs h = go (access i) refl
   where
-    go : (a : Access) → access i ≡ a → Goes s (i ∷ p) 0 rs (no-room a .log) (no-room a .ending)
-    go (Access.halt e) k = halted e k
-    go (Access.read r) k = full (ap no-room k) refl
-    go (Access.write r v) k = full (ap no-room k) refl
+    go : (a : Act) → access i ≡ a → Goes s (i ∷ p) 0 rs (no-room a .log) (no-room a .ending)
+    go (Act.halt e) k = halted e k
+    go (Act.make a) k = full a k
 exec-goes s (suc n) [] rs h = done
 exec-goes s (suc n) (i ∷ p) rs h = go (access i) refl rs (exec-goes s n)
   where
-    go : (a : Access) → access i ≡ a → (rs : List ℕ) → ((p : List Step) (rs : List ℕ) → misused p ≡ 0 → Goes s p n rs (exec s n p rs .log) (exec s n p rs .ending))
+    go : (a : Act) → access i ≡ a → (rs : List ℕ) → ((p : List Step) (rs : List ℕ) → misused p ≡ 0 → Goes s p n rs (exec s n p rs .log) (exec s n p rs .ending))
         → let r = perform a (λ v. next s i v ++ p) rs (exec s n) in Goes s (i ∷ p) (suc n) rs (r .log) (r .ending)
-    go (Access.halt e) k rs ih = halted e k
-    go (Access.write r v) k rs ih =
+    go (Act.halt e) k rs ih = halted e k
+    go (Act.make (Access.write r v)) k rs ih =
         let f = rw k at (after-access P G code-weights s i p v) in
         wrote r v k (write-code (is-read r) (omega arith)) (ih (next s i v ++ p) rs (omega arith))
-    go (Access.read r) k [] ih =
+    go (Act.make (Access.read r)) k [] ih =
         let f = rw k at (after-access P G code-weights s i p 0) in
         lacks r k (read-code (is-read r) (omega arith))
-    go (Access.read r) k (w ∷ rs) ih =
+    go (Act.make (Access.read r)) k (w ∷ rs) ih =
         let f = rw k at (after-access P G code-weights s i p (cut r w)) in
         took r w k (read-code (is-read r) (omega arith)) (ih (next s i (cut r w) ++ p) rs (omega arith))
 
@@ -92,7 +89,7 @@ module _ {s : Setup} where
   unfolding number
   stops done bad q = absurd (bad refl)
   stops (halted e a) bad q = halted e a
-  stops (full a z) bad q = full a z
+  stops (full a k) bad q = full a k
   stops (lacks r a t) bad q = lacks r a t
   stops (wrote r v a t h) bad q = wrote r v a t (rw append-assoc at (stops h bad q))
   stops (took r w a t h) bad q = took r w a t (rw append-assoc at (stops h bad q))
@@ -109,11 +106,11 @@ error-number BusError.Bus = (omega arith, omega arith)
 error-number BusError.Crc = (omega arith, omega arith)
 error-number BusError.ArbitrationLoss = (omega arith, omega arith)
 
--- the number of a cut
-pub cut-number : (c : Cut) → (9 ≤ number (Ending.cut-short c)) × (number (Ending.cut-short c) ≤ 10)
+-- the number of a shortage
+pub shortage-number : (c : Shortage) → (9 ≤ number (Ending.cut-short c)) × (number (Ending.cut-short c) ≤ 10)
 unfolding number
-cut-number Cut.NoReadings = (omega arith, omega arith)
-cut-number (Cut.NoRecord w) = (omega arith, omega arith)
+shortage-number Shortage.no-readings = (omega arith, omega arith)
+shortage-number (Shortage.no-record a) = (omega arith, omega arith)
 
 -- calls go as all their steps in one
 run-goes : (s : Setup) (cs : List (List Step)) (n : ℕ) (rs : List ℕ) → misused (flatten cs) ≡ 0 → Goes s (flatten cs) n rs (flatten (run s cs n rs .begun)) (run s cs n rs .ending)
@@ -127,7 +124,7 @@ run-goes s (c ∷ cs) n rs h =
         → Goes s (c ++ flatten cs) n rs (flatten (after-call l e r .begun)) (after-call l e r .ending)
     go l Ending.well g r k = goes-on g k
     go l (Ending.failed e) g r k = rw append-nil (stops g (λ z. omega (arith, error-number e)) (flatten cs))
-    go l (Ending.cut-short c) g r k = rw append-nil (stops g (λ z. omega (arith, cut-number c)) (flatten cs))
+    go l (Ending.cut-short c) g r k = rw append-nil (stops g (λ z. omega (arith, shortage-number c)) (flatten cs))
 
 -- no call misuses a code
 times-none : (n : ℕ) → times P G code-weights n ≡ 0
@@ -172,7 +169,7 @@ whole-goes s cs n rs =
 pub goes-room : {s : Setup} {p : List Step} {n : ℕ} {rs : List ℕ} {l : List Entry} {e : Ending} → Goes s p n rs l e → length l ≤ n
 goes-room done = omega arith
 goes-room (halted e a) = omega arith
-goes-room (full a z) = omega arith
+goes-room (full a k) = omega arith
 goes-room (lacks r a t) = omega arith
 goes-room (wrote r v a t g) = omega (arith, goes-room g)
 goes-room (took r w a t g) = omega (arith, goes-room g)

@@ -16,8 +16,8 @@ use Rattle.registers.specs.declared.BusError.{BusError}
 use Rattle.registers.specs.declared.Flagged.{Flagged}
 use Rattle.registers.specs.declared.Awaited.{Awaited}
 use Rattle.registers.specs.Word.{has, BTF, BERR, STOP, MSL, BUSY}
-use Rattle.registers.specs.Access.{SR1, SR2, CR1, DR, CYC, wCR1, wCR2, wCCR, wTRISE, wSR1, wDR}
-use Rattle.registers.specs.Machine.{Step, Handler, Access, access, next, check-word, after-check, poll-error, poll-ready, after-poll, handle, start, start-again, stop-for, since, bring-up}
+use Rattle.registers.specs.Access.{SR1, SR2, CR1, DR, CYC, wCR1, wCR2, wCCR, wTRISE, wSR1, wDR, Access}
+use Rattle.registers.specs.Machine.{Step, Handler, Act, access, next, check-word, after-check, poll-error, poll-ready, after-poll, handle, start, start-again, stop-for, since, bring-up}
 
 -- weights of accesses by their code, where no write of the engines weighs, and of the reads only DR's
 pub record Weights (P G : ℕ → ℕ) : Type 0 where
@@ -247,10 +247,10 @@ module _ (P G : ℕ → ℕ) (w : Weights P G) where
       go Engine.blocking = blocking-total s (c .address) Previous.Nothing (c .operations)
 
   -- the weight of the access that a step makes
-  abbrev pub access-weight : Access → ℕ
-  access-weight (Access.halt e) = 0
-  access-weight (Access.read r) = G r
-  access-weight (Access.write r v) = P r
+  abbrev pub access-weight : Act → ℕ
+  access-weight (Act.halt e) = 0
+  access-weight (Act.make (Access.read r)) = G r
+  access-weight (Act.make (Access.write r v)) = P r
 
   pub access-total : (i : Step) → access-weight (access i) ≡ weight i
   access-total (Step.fail e) = omega arith

@@ -49,7 +49,7 @@ goes-received : {s : Setup} {p : List Step} {n : ℕ} {rs : List ℕ} {l : List 
 unfolding received-of
 goes-received done = omega arith
 goes-received (halted e a) = omega arith
-goes-received (full a z) = omega arith
+goes-received (full a k) = omega arith
 goes-received (lacks r a t) = omega arith
 goes-received {s} (wrote {i} {p} {l} r v a t g) =
     omega (arith, received-entry (record { code = r; value = v }) l, goes-received g, rw a at (after-access D D data-weights s i p v))

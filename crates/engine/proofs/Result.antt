@@ -84,7 +84,7 @@ accepted-meant l rs rx lg {rx′} {lg′} k o ok t f e′ =
         ≡ at rs (sets lg 0 (record-of log)) (sets rx 0 (received-of log)) (record { used = reads log; made = length log; got = length (received-of log) })
         = ap (λ (z : Final). z .state) e ∙ replay-is log rs lg rx nothing-yet ∙ simp zero-add in
         let b : progress-of o ≡ record { used = reads log; made = length log; got = length (received-of log) } = cc in
-        let n = ap (λ (z : Final). number (z .ending)) e in
+        let n = ap (λ (z : Final). z .answer) e in
         let c = ap (λ (z : Final). z .calls) e in
         let u = ap (λ (z : Progress). z .used) b in
         let m = ap (λ (z : Progress). z .made) b in

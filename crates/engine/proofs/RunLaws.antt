@@ -12,7 +12,7 @@ use lib.Seq.{drop-drop, sets, sets-eq}
 use Rattle.units.specs.declared.Setup.{Setup}
 use Rattle.registers.specs.declared.Progress.{Progress}
 use Rattle.registers.specs.declared.Entry.{Entry}
-use Rattle.registers.specs.Access.{Ending, is-read, is-data, low-byte, words-in, store, record-of, reads, received-of}
+use Rattle.registers.specs.Access.{Ending, number, is-read, is-data, low-byte, words-in, store, record-of, reads, received-of}
 use Rattle.registers.specs.Machine.{Step, exec, run, after-call, flat, after-bring-up, whole-run, bring-up}
 use Rattle.registers.specs.State.{State, at, recorded, received, replay, room, left, after, resume}
 use Rattle.engine.specs.Run.{filled}
@@ -53,11 +53,11 @@ left-replay (e ∷ es) st =
 
 -- a run that ends so, after so many calls, on a state that its log is replayed on
 abbrev pub final-of : State → Ending → ℕ → List Entry → Final
-final-of st e k log = record { ending = e; calls = k; state = replay log st }
+final-of st e k log = record { answer = number e; calls = k; state = replay log st }
 
 pub calls-run-is : (s : Setup) (cs : List (List Step)) (st : State)
     → let r = run s cs (room st) (left st) in calls-run s cs st ≡ final-of st (r .ending) (r .calls) (flatten (r .begun))
-unfolding calls-run run replay resume after after-call flatten
+unfolding calls-run run replay resume after after-call flatten number
 calls-run-is s [] st = refl
 calls-run-is s (c ∷ cs) st = go (exec s (room st) c (left st) .log) (exec s (room st) c (left st) .ending) (calls-run-is s cs)
   where
@@ -72,7 +72,7 @@ calls-run-is s (c ∷ cs) st = go (exec s (room st) c (left st) .log) (exec s (r
 -- the bring-up, then the calls
 pub whole-run-is : (s : Setup) (cs : List (List Step)) (st : State) → let r = whole-run s cs (room st) (left st) in
     after-calls 0 (resume s (bring-up s) st) (calls-run s cs) ≡ final-of st (r .ending) (r .calls) (flat (r .log))
-unfolding whole-run replay resume after after-bring-up flatten
+unfolding whole-run replay resume after after-bring-up flatten number
 whole-run-is s cs st = go (exec s (room st) (bring-up s) (left st) .log) (exec s (room st) (bring-up s) (left st) .ending)
   where
     go : (l : List Entry) (e : Ending) → let r = after-bring-up l e (run s cs (room st - length l) (drop (reads l) (left st))) in

@@ -14,15 +14,15 @@ use Rattle.registers.specs.declared.Bits.{Bits}
 use Rattle.registers.specs.declared.Flagged.{Flagged}
 use Rattle.registers.specs.declared.Awaited.{Awaited}
 use Rattle.registers.specs.Word.{has, SB, BERR, STOP}
-use Rattle.registers.specs.Access.{CYC, wCR1, wSR1, Ending, number}
-use Rattle.registers.specs.Machine.{Step, Handler, Access, access, next, check-word, after-check, poll-word, poll-error, poll-ready, after-poll, handle, stop-for, since}
+use Rattle.registers.specs.Access.{CYC, wCR1, wSR1, Access, code-of as access-code, Ending, number}
+use Rattle.registers.specs.Machine.{Step, Handler, Act, access, next, check-word, after-check, poll-word, poll-error, poll-ready, after-poll, handle, stop-for, since}
 use Rattle.engine.proofs.Goes.{Goes, done, halted, full, lacks, wrote, took, error-number}
 
 -- an entry is of the access that a step makes
-abbrev pub Made : Access → Entry → Type 0
-Made (Access.halt e) m = ⊥
-Made (Access.read r) m = m .code ≡ r
-Made (Access.write r v) m = (m .code ≡ r) × (m .value ≡ v)
+abbrev pub Made : Act → Entry → Type 0
+Made (Act.halt e) m = ⊥
+Made (Act.make (Access.read r)) m = m .code ≡ r
+Made (Act.make (Access.write r v)) m = (m .code ≡ r) × (m .value ≡ v)
 
 -- the log is a trace of the steps: with the values read taken from it, they end well and use all of it
 unfoldable pub Trace : Setup → List Entry → List Step → Type 0
@@ -36,7 +36,7 @@ pub goes-trace : {s : Setup} {p : List Step} {n : ℕ} {rs : List ℕ} {l : List
 unfolding Trace number
 goes-trace done z = tt
 goes-trace (halted e a) z = absurd (omega (arith, error-number e))
-goes-trace (full a h) z = absurd (omega arith)
+goes-trace (full a k) z = absurd (omega arith)
 goes-trace (lacks r a t) z = absurd (omega arith)
 goes-trace (wrote r v a t g) z = (rw a (refl, refl), goes-trace g z)
 goes-trace (took r w a t g) z = (rw a refl, goes-trace g z)
@@ -50,19 +50,18 @@ pub record Both (s : Setup) (P : Type 0) (p q : List Step) : Type 0 where
   pub at : (l : List Entry) → At s P l p q
 
 -- the code of the first access; 0 for none
-abbrev pub code-of : Access → ℕ
-code-of (Access.halt e) = 0
-code-of (Access.read r) = r
-code-of (Access.write r v) = r
+abbrev pub code-of : Act → ℕ
+code-of (Act.halt e) = 0
+code-of (Act.make a) = access-code a
 
 unfoldable pub first : List Step → ℕ
 first [] = 0
 first (i ∷ p) = code-of (access i)
 
 -- its code
-made-code : (a : Access) (m : Entry) → Made a m → m .code ≡ code-of a
-made-code (Access.read r) m h = h
-made-code (Access.write r v) m h = h .0
+made-code : (a : Act) (m : Entry) → Made a m → m .code ≡ code-of a
+made-code (Act.make (Access.read r)) m h = h
+made-code (Act.make (Access.write r v)) m h = h .0
 
 -- a trace's first code is that of the first access
 first-code : (s : Setup) (m : Entry) (l : List Entry) (p : List Step) → Trace s (m ∷ l) p → m .code ≡ first p

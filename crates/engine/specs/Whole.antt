@@ -9,10 +9,10 @@ use Rattle.buslist.specs.declared.CallEntry.{CallEntry}
 use Rattle.buslist.specs.Meaning.{Operation, write, read, calls-of}
 use Rattle.registers.specs.declared.Progress.{Progress}
 use Rattle.registers.specs.declared.Outcome.{Outcome}
-use Rattle.registers.specs.Access.{Ending, number}
+use Rattle.registers.specs.Access.{well, failed, cut-number, number}
 use Rattle.registers.specs.Machine.{Step}
 use Rattle.registers.specs.State.{State, After, at, resume}
-use Rattle.registers.specs.Contract.{ending-of, Slice}
+use Rattle.registers.specs.Contract.{outcome-number, Slice}
 use Rattle.i2c.specs.declared.Previous.{Previous}
 use Rattle.i2c.specs.Polling.{direction, operation-steps as polling-operation}
 use Rattle.blocking.specs.Blocking.{done-last, close-after, operation-steps as blocking-operation}
@@ -57,23 +57,23 @@ end-steps s blocking previous = close-after s previous
 abbrev pub nothing-yet : Progress
 nothing-yet = record { used = 0; made = 0; got = 0 }
 
--- how a run ends: its ending, the calls that ended well, and the state
+-- how a run ends: its answer, the calls that ended well, and the state
 pub record Final : Type 0 where
-  pub ending : Ending
+  pub answer : ℕ
   pub calls : ℕ
   pub state : State
 
 abbrev pub more-calls : ℕ → Final → Final
-more-calls k f = record { ending = f .ending; calls = k + f .calls; state = f .state }
+more-calls k f = record { answer = f .answer; calls = k + f .calls; state = f .state }
 
 abbrev pub after-calls : ℕ → After → (State → Final) → Final
 after-calls k (After.going st) f = more-calls k (f st)
-after-calls k (After.failed e st) f = record { ending = Ending.failed e; calls = 0; state = st }
-after-calls k (After.cut-short c st) f = record { ending = Ending.cut-short c; calls = 0; state = st }
+after-calls k (After.failed e st) f = record { answer = number (failed e); calls = 0; state = st }
+after-calls k (After.cut-short c st) f = record { answer = cut-number c; calls = 0; state = st }
 
 -- the calls in order, until one does not end well
 unfoldable pub calls-run : Setup → List (List Step) → State → Final
-calls-run s [] st = record { ending = Ending.well; calls = 0; state = st }
+calls-run s [] st = record { answer = number well; calls = 0; state = st }
 calls-run s (c ∷ cs) st = after-calls 1 (resume s c st) (calls-run s cs)
 
 -- how far the run had come at an outcome
@@ -86,7 +86,7 @@ progress-of (Outcome.CutShort c b) = b
 abbrev pub ended-counts : Outcome → ℕ → Counts
 ended-counts o calls =
     record {
-      answer = number (ending-of o);
+      answer = outcome-number o;
       calls = calls;
       used = progress-of o .used;
       made = progress-of o .made;
@@ -95,7 +95,7 @@ ended-counts o calls =
 
 -- a run that ended with this outcome after k calls
 abbrev pub final : List ℕ → List ℕ → List ℕ → ℕ → Outcome → Final
-final rs lg rx k o = record { ending = ending-of o; calls = k; state = at rs lg rx (progress-of o) }
+final rs lg rx k o = record { answer = outcome-number o; calls = k; state = at rs lg rx (progress-of o) }
 
 -- the calls cs from st end so
 pub record Ends (s : Setup) (cs : List (List Step)) (st : State) (rs lg rx : List ℕ) (k : ℕ) (o : Outcome) : Type 0 where

@@ -18,8 +18,8 @@ use Rattle.registers.specs.declared.Outcome.{Outcome}
 use Rattle.registers.specs.declared.Flagged.{Flagged}
 use Rattle.registers.proofs.Checked as C
 use Rattle.registers.specs.Word.{has, BERR}
-use Rattle.registers.specs.Access.{SR1, wSR1, clear-word}
-use Rattle.registers.specs.Machine.{Step, Access, access, next, check-word, after-check}
+use Rattle.registers.specs.Access.{SR1, wSR1, clear-word, Access}
+use Rattle.registers.specs.Machine.{Step, Act, access, next, check-word, after-check}
 use Rattle.registers.specs.State.{State, After, Took, Found, at, then, taking, finding, entry, received, room, resume, read, write, check, check-flags, found-then, found-word}
 use Rattle.registers.specs.Contract.{outcome, checked, checked-of, check-outcome, failed-of, word-of, ReadsFrom, WritesFrom, ChecksFrom, Refines, Reaches}
 use Rattle.registers.proofs.Laws.{read-law, write-law, fail-law, received-other, read-room, write-room}
@@ -62,7 +62,7 @@ module _ {st : State} {rs lg rx : List ℕ} {r : Taken} (x : ReadsFrom SR1 st rs
 
 -- the step i checks with the source n: on the word v, what follows it is m v
 pub record Checking (s : Setup) (i : Step) (n : Source) (m : ℕ → List Step) : Type 0 where
-  pub reads : access i ≡ Access.read SR1
+  pub reads : access i ≡ Act.make (Access.read SR1)
   pub follows : (v : ℕ) → next s i v ≡ after-check (check-word n v) (has BERR v) (m v)
 
 -- the three steps that check

@@ -546,7 +546,7 @@ pub fn write_operation(
     bytes: &[u8],
 ) -> Outcome
     requires { ⌜ addr < 128 ⌝ }
-    ensures { λ r. ⌜ ((early : Bool) → Does (operation-steps early addr previous last (Operation.write (now (bytes .entry)))) readings log progress r) ⌝ }
+    ensures { λ r. ⌜ ((e : Bool) → Does (operation-steps e addr previous last (Operation.write (now (bytes .entry)))) readings log progress r) ⌝ }
 {
     let a = turn_write(readings, log, progress, addr, previous);
     let Outcome::Well(next) = a else {

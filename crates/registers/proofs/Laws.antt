@@ -13,8 +13,8 @@ use Rattle.registers.specs.declared.Progress.{Progress}
 use Rattle.registers.specs.declared.BusError.{BusError}
 use Rattle.registers.specs.declared.Cut.{Cut}
 use Rattle.registers.specs.declared.Entry.{Entry}
-use Rattle.registers.specs.Access.{is-read, is-data, cut, CYC, DR, store, entries-in, Ending}
-use Rattle.registers.specs.Machine.{Step, Access, access, next, exec, exec-on, exec-full, perform, no-room}
+use Rattle.registers.specs.Access.{is-read, is-data, cut, CYC, DR, store, entries-in, Ending, Access}
+use Rattle.registers.specs.Machine.{Step, Act, access, next, exec, exec-on, exec-full, perform, no-room}
 use Rattle.registers.specs.State.{State, After, Took, at, going, word, then, taking, entry, recorded, received, replay, room, left, after, resume, read-one, read, write-one, write}
 
 pub length-store : (lg : List ℕ) (k : ℕ) (e : Entry) → length (store lg k e) ≡ length lg
@@ -47,7 +47,7 @@ unfolding received
 received-other e (at rs lg rx b) t = rw t
 
 -- a step that reads
-pub read-law : (s : Setup) (i : Step) (c : ℕ) (p : List Step) (st : State) → access i ≡ Access.read c → is-read c ≡ true
+pub read-law : (s : Setup) (i : Step) (c : ℕ) (p : List Step) (st : State) → access i ≡ Act.make (Access.read c) → is-read c ≡ true
     → resume s (i ∷ p) st ≡ taking (read c st) (λ v st′. resume s (next s i v ++ p) (received (entry c v) st′))
 unfolding resume read exec exec-on exec-full no-room perform after replay read-one
 read-law s i c p st e t = go (room st) (left st) refl refl

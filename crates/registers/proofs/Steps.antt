@@ -17,8 +17,8 @@ use Rattle.registers.specs.declared.Cut.{Cut}
 use Rattle.registers.specs.declared.Taken.{Taken}
 use Rattle.registers.specs.declared.Outcome.{Outcome}
 use Rattle.registers.proofs.Outcome as O
-use Rattle.registers.specs.Access.{CYC, DR, is-read, is-data, cut, entries-in}
-use Rattle.registers.specs.Machine.{Step, Handler, handle, Access, access, next}
+use Rattle.registers.specs.Access.{CYC, DR, is-read, is-data, cut, entries-in, Access}
+use Rattle.registers.specs.Machine.{Step, Handler, handle, Act, access, next}
 use Rattle.registers.specs.State.{State, After, Took, at, word, then, taking, entry, recorded, received, room, left, resume, read-one, read}
 use Rattle.registers.specs.Contract.{outcome, taken, outcome-of, handled, ReadsFrom, WritesFrom, Refines, Reaches, WaitsFrom}
 use Rattle.registers.proofs.Laws.{read-law, write-law, fail-law, done-law, received-other, read-room, resume-fewer}
@@ -47,7 +47,7 @@ rewritten e g = rw e at g
 
 -- a read that is no DR read, for the step i
 module _ {s : Setup} {q : List Step} {st : State} {i : Step} {q₁ : List Step} {st₁ : State} (g : Reaches s q st (i ∷ q₁) st₁)
-    {c : ℕ} {rs lg rx : List ℕ} {r : Taken} (x : ReadsFrom c st₁ rs lg rx r) (a : access i ≡ Access.read c) (t : is-read c ≡ true) where
+    {c : ℕ} {rs lg rx : List ℕ} {r : Taken} (x : ReadsFrom c st₁ rs lg rx r) (a : access i ≡ Act.make (Access.read c)) (t : is-read c ≡ true) where
   pub read-step : is-data c ≡ false → {v : ℕ} {b : Progress} → r ≡ Taken.Word v b → {m : List Step} → next s i v ≡ m → Reaches s q st (m ++ q₁) (at rs lg rx b)
   read-step u {v} {b} e {m} n =
       record { is = λ p. g .is p ∙ read-law s i c (q₁ ++ p) st₁ a t ∙ rw (← x .is, e, received-other (entry c v) (at rs lg rx b) u, n, append-assoc m q₁ p) }
@@ -83,7 +83,7 @@ ends-failed {s} {e = e} {q₁} g = record { is = λ p. g .is p ∙ fail-law s e 
 
 -- the last thing done is a read for its own sake, a write, or a call
 pub read-last : {s : Setup} {q : List Step} {st : State} {i : Step} {st₁ : State} (g : Reaches s q st (i ∷ []) st₁)
-    {c : ℕ} {rs lg rx : List ℕ} {r : Taken} (x : ReadsFrom c st₁ rs lg rx r) → access i ≡ Access.read c → is-read c ≡ true → is-data c ≡ false
+    {c : ℕ} {rs lg rx : List ℕ} {r : Taken} (x : ReadsFrom c st₁ rs lg rx r) → access i ≡ Act.make (Access.read c) → is-read c ≡ true → is-data c ≡ false
     → ((v : ℕ) → next s i v ≡ []) → Refines s q st rs lg rx (outcome-of r)
 read-last {s} {q} {st} {i} {st₁} g {c} {rs} {lg} {rx} {r} x a t u n = record { is = λ p. g .is p ∙ read-law s i c p st₁ a t ∙ rw (← x .is) (go p r) }
   where

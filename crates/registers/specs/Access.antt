@@ -95,13 +95,37 @@ unfoldable pub received-of : List Entry → List ℕ
 received-of [] = []
 received-of (e ∷ es) = cond (is-data (e .code)) (low-byte (e .value) ∷ []) [] ++ received-of es
 
+-- an access: a read of this register, or a write of this value to this one
+pub data Access : Type 0 where
+  read : ℕ → Access
+  write : ℕ → ℕ → Access
+
+-- its code
+abbrev pub code-of : Access → ℕ
+code-of (read r) = r
+code-of (write r v) = r
+
+-- why a run is cut short: every reading is used, or too few record words remain for this access
+pub data Shortage : Type 0 where
+  no-readings : Shortage
+  no-record : Access → Shortage
+
 -- how a call or a run ends: well; failed, by a bus error; cut short, for want of a reading or of record words
 pub data Ending : Type 0 where
   well : Ending
   failed : BusError → Ending
-  cut-short : Cut → Ending
+  cut-short : Shortage → Ending
+
+-- a shortage as the code's answers have it: of the access that had no room, its code
+abbrev pub cut-of : Shortage → Cut
+cut-of no-readings = Cut.NoReadings
+cut-of (no-record a) = Cut.NoRecord (code-of a)
 
 -- the number of each ending (document 01, "How a run can end")
+abbrev pub cut-number : Cut → ℕ
+cut-number Cut.NoReadings = 9
+cut-number (Cut.NoRecord r) = 10
+
 unfoldable pub number : Ending → ℕ
 number well = 0
 number (failed BusError.Overrun) = 1
@@ -112,5 +136,4 @@ number (failed BusError.Timeout) = 5
 number (failed BusError.Bus) = 6
 number (failed BusError.Crc) = 7
 number (failed BusError.ArbitrationLoss) = 8
-number (cut-short Cut.NoReadings) = 9
-number (cut-short (Cut.NoRecord w)) = 10
+number (cut-short c) = cut-number (cut-of c)

@@ -1,7 +1,8 @@
 -- The forms of the contracts: what a function's answer means, by the state that it leaves and what comes of the rest of the run from there.
-use Prim.Native.Nat.{ℕ}
+use Prim.Native.Nat.{ℕ, _-_, _*_, _≤_}
 use mathlib.Core.Path.{_≡_}
 use mathlib.Core.List.{List, _++_}
+use lib.ListN.{length}
 use denote.Ref.{RefT, now}
 use denote.Triple.Both.{Both}
 use Rattle.units.specs.declared.Setup.{Setup}
@@ -11,7 +12,7 @@ use Rattle.registers.specs.declared.Progress.{Progress}
 use Rattle.registers.specs.declared.Outcome.{Outcome}
 use Rattle.registers.specs.declared.Taken.{Taken}
 use Rattle.registers.specs.declared.Checked.{Checked}
-use Rattle.registers.specs.Access.{Ending}
+use Rattle.registers.specs.Access.{entries-in, well, failed, cut-number, number}
 use Rattle.registers.specs.Machine.{Step, Handler, handle}
 use Rattle.registers.specs.State.{State, at, After, Took, Found, then, resume, read, write, check}
 
@@ -57,11 +58,11 @@ word-of (Outcome.Well b) word = Checked.Word word b
 word-of (Outcome.Failed e b) word = Checked.Failed e b
 word-of (Outcome.CutShort c b) word = Checked.CutShort c b
 
--- how an outcome ends
-abbrev pub ending-of : Outcome → Ending
-ending-of (Outcome.Well b) = Ending.well
-ending-of (Outcome.Failed e b) = Ending.failed e
-ending-of (Outcome.CutShort c b) = Ending.cut-short c
+-- the number of an outcome: that of the ending which it stands for
+abbrev pub outcome-number : Outcome → ℕ
+outcome-number (Outcome.Well b) = number well
+outcome-number (Outcome.Failed e b) = number (failed e)
+outcome-number (Outcome.CutShort c b) = cut-number c
 
 -- one read of the register c from st answers r, and leaves these readings, this record and these received bytes
 pub record ReadsFrom (c : ℕ) (st : State) (rs lg rx : List ℕ) (r : Taken) : Type 0 where
@@ -96,6 +97,11 @@ pub record WaitsFrom (s : Setup) (h : Handler) (q : List Step) (st : State) (rs 
 
 abbrev pub Slice : Type 0
 Slice = Both (RefT (List ℕ)) (RefT (List ℕ))
+
+-- n of so many bytes fit, each with its wait over at once: two readings and three entries a byte
+abbrev pub BytesFit : (readings log : Slice) → Progress → (count n : ℕ) → Type 0
+BytesFit readings log b count n =
+    (n ≤ count) × (2 * n ≤ length (now (readings .entry)) - b .used) × (3 * n ≤ entries-in (length (now (log .entry))) - b .made)
 
 -- one read of the register c, whatever is received
 abbrev pub Reads : ℕ → (readings log : Slice) → Progress → Taken → Type 0

@@ -8,13 +8,12 @@ use lib.Dec.{leb}
 use Rattle.units.specs.declared.Setup.{Setup}
 use Rattle.registers.specs.declared.Source.{Source}
 use Rattle.registers.specs.declared.BusError.{BusError}
-use Rattle.registers.specs.declared.Cut.{Cut}
 use Rattle.registers.specs.declared.Entry.{Entry}
 use Rattle.registers.specs.declared.Bits.{Bits}
 use Rattle.registers.specs.declared.Flagged.{Flagged}
 use Rattle.registers.specs.declared.Awaited.{Awaited}
 use Rattle.registers.specs.Word.{has, with-bits, without-bits, none, one, SB, BERR, ARLO, AF, OVR, PECERR, TIMEOUT, MSL, BUSY, PE, START, STOP, SWRST}
-use Rattle.registers.specs.Access.{SR1, SR2, CR1, CYC, wCR1, wCR2, wCCR, wTRISE, wSR1, cut, clear-word, reads, Ending, well, failed, cut-short}
+use Rattle.registers.specs.Access.{SR1, SR2, CR1, CYC, wCR1, wCR2, wCCR, wTRISE, wSR1, cut, clear-word, reads, Access, read, write, no-readings, no-record, Ending, well, failed, cut-short}
 
 -- what a timed wait does with an error: end the call; end it, with STOP set before where it is a NoAcknowledge; or reset, with that many tries left
 pub data Handler : Type 0 where
@@ -129,28 +128,27 @@ unfoldable pub after-poll : Setup → Handler → Flagged → Bool → Step → 
 after-poll s h (Flagged.Error e) ready later = clear e ∷ handle s h e
 after-poll s h Flagged.Nothing ready later = cond ready [] (later ∷ [])
 
--- the access that a step makes: none where the call fails
-pub data Access : Type 0 where
-  halt : BusError → Access
-  read : ℕ → Access
-  write : ℕ → ℕ → Access
+-- what a step does: it fails the call and makes no access, or it makes this one
+pub data Act : Type 0 where
+  halt : BusError → Act
+  make : Access → Act
 
-abbrev pub access : Step → Access
+abbrev pub access : Step → Act
 access (fail e) = halt e
-access (put r v) = write r v
-access (get r) = read r
-access (modify on off) = read CR1
-access stop-clear = read CR1
-access (check f n) = read SR1
-access check-master = read SR1
-access checked-master = read SR2
-access (check-twice f n) = read SR1
-access (checked-twice f n) = read SR1
-access (flag f) = read SR1
-access master = read SR2
-access (timed w l h) = read CYC
-access (poll w l h t) = read (polled-register w)
-access (late w l h t) = read CYC
+access (put r v) = make (write r v)
+access (get r) = make (read r)
+access (modify on off) = make (read CR1)
+access stop-clear = make (read CR1)
+access (check f n) = make (read SR1)
+access check-master = make (read SR1)
+access checked-master = make (read SR2)
+access (check-twice f n) = make (read SR1)
+access (checked-twice f n) = make (read SR1)
+access (flag f) = make (read SR1)
+access master = make (read SR2)
+access (timed w l h) = make (read CYC)
+access (poll w l h t) = make (read (polled-register w))
+access (late w l h t) = make (read CYC)
 
 -- what takes the step's place once its access is made, with the value read
 unfoldable pub next : Setup → Step → ℕ → List Step
@@ -182,17 +180,16 @@ abbrev pub logged : ℕ → ℕ → Ran → Ran
 logged c v r = record { log = record { code = c; value = v } ∷ r .log; ending = r .ending }
 
 -- fewer than an entry's words remain: only a step that makes no access can end the call otherwise
-unfoldable pub no-room : Access → Ran
+unfoldable pub no-room : Act → Ran
 no-room (halt e) = ended (failed e)
-no-room (read r) = ended (cut-short (Cut.NoRecord r))
-no-room (write r v) = ended (cut-short (Cut.NoRecord r))
+no-room (make a) = ended (cut-short (no-record a))
 
 -- one access with room for it; `on` runs the rest, given what takes the step's place and the readings left
-unfoldable pub perform : Access → (ℕ → List Step) → List ℕ → (List Step → List ℕ → Ran) → Ran
+unfoldable pub perform : Act → (ℕ → List Step) → List ℕ → (List Step → List ℕ → Ran) → Ran
 perform (halt e) to rs on = ended (failed e)
-perform (write r v) to rs on = logged r v (on (to v) rs)
-perform (read r) to [] on = ended (cut-short Cut.NoReadings)
-perform (read r) to (w ∷ rs) on = logged r (cut r w) (on (to (cut r w)) rs)
+perform (make (write r v)) to rs on = logged r v (on (to v) rs)
+perform (make (read r)) to [] on = ended (cut-short no-readings)
+perform (make (read r)) to (w ∷ rs) on = logged r (cut r w) (on (to (cut r w)) rs)
 
 -- with no room for another access
 unfoldable pub exec-full : List Step → List ℕ → Ran

@@ -11,7 +11,7 @@ use Rattle.registers.specs.declared.Entry.{Entry}
 use Rattle.registers.specs.declared.Progress.{Progress}
 use Rattle.registers.specs.declared.Flagged.{Flagged}
 use Rattle.registers.specs.Word.{has, BERR}
-use Rattle.registers.specs.Access.{SR1, CYC, wSR1, wDR, is-read, is-data, cut, low-byte, clear-word, entries-in, store, Ending}
+use Rattle.registers.specs.Access.{SR1, CYC, wSR1, wDR, is-read, is-data, cut, low-byte, clear-word, entries-in, store, cut-of, Ending}
 use Rattle.registers.specs.Machine.{Step, exec, check-word}
 
 -- the readings, the record, the received buffer, and how far the run has come
@@ -72,7 +72,7 @@ then (cut-short c st) k = cut-short c st
 unfoldable pub after : Ending → State → After
 after Ending.well st = going st
 after (Ending.failed e) st = failed e st
-after (Ending.cut-short c) st = cut-short c st
+after (Ending.cut-short c) st = cut-short (cut-of c) st
 
 -- what is still to come of a run that has these steps to do
 unfoldable pub resume : Setup → List Step → State → After

@@ -2,7 +2,7 @@
 ghost use mathlib.Core.Path.{_≡_};
 ghost use mathlib.Core.Bool.{true, false};
 ghost use mathlib.Core.List.{[], _∷_};
-ghost use Prim.Native.Nat.{_+_, _-_, _*_, _<_, _≤_, _^_};
+ghost use Prim.Native.Nat.{_+_, _*_, _<_, _≤_, _^_};
 ghost use lib.ListN.{length, getD};
 ghost use Rattle.units.specs.declared.Setup.{Setup};
 ghost use Rattle.registers.specs.Word.{has, with-bit, without-bit, with-bits, without-bits};
@@ -10,7 +10,7 @@ ghost use lib.Dec.{leb};
 ghost use Rattle.registers.specs.Access.{SR1, DR, wSR1, is-read, is-data, cut, entries-in, store, clear-word, number, failed};
 ghost use Rattle.registers.specs.Machine.{Step};
 ghost use Rattle.registers.specs.State.{after-bytes, store-byte};
-ghost use Rattle.registers.specs.Contract.{outcome-of, checked-of, check-outcome, failed-of, word-of, ending-of, Reads, Writes, Does, Receives};
+ghost use Rattle.registers.specs.Contract.{outcome-of, checked-of, check-outcome, failed-of, word-of, outcome-number, BytesFit, Reads, Writes, Does, Receives};
 
 // Codes of the record: reads.
 pub const SR1: u32 = 1;
@@ -255,7 +255,7 @@ pub fn write(log: &mut [u32], progress: Progress, code: u32, value: u32) -> Outc
 
 // How many of so many bytes fit, each with its wait over at once: CYC, SR1 and DR.
 pub fn bytes_that_fit(readings: &[u32], log: &[u32], progress: Progress, count: usize) -> usize
-    ensures { λ r. ⌜ (r ≤ count) × (2 * r ≤ length (now (readings .entry)) - progress .used) × (3 * r ≤ entries-in (length (now (log .entry))) - progress .made) ⌝ }
+    ensures { λ r. ⌜ BytesFit readings log progress count r ⌝ }
 {
     let entries = log.len() / ENTRY_WORDS;
     if entries <= progress.made {
@@ -441,7 +441,7 @@ pub fn clear_flag(log: &mut [u32], progress: Progress, error: BusError) -> Outco
 
 // The number that document 01 gives an ending.
 pub fn number(outcome: Outcome) -> u32
-    ensures { λ r. ⌜ r ≡ number (ending-of outcome) ⌝ }
+    ensures { λ r. ⌜ r ≡ outcome-number outcome ⌝ }
 {
     match outcome {
         Outcome::Well(_) => 0,

@@ -14,8 +14,8 @@ use Rattle.registers.specs.declared.Cut.{Cut}
 use Rattle.registers.specs.declared.Taken.{Taken}
 use Rattle.registers.specs.declared.Flagged.{Flagged}
 use Rattle.registers.specs.declared.Outcome.{Outcome}
-use Rattle.registers.specs.Access.{CYC, wSR1, is-read, is-data, clear-word}
-use Rattle.registers.specs.Machine.{Step, Handler, Access, access, next, handle, clear, since, polled-register, poll-error, poll-ready, after-poll}
+use Rattle.registers.specs.Access.{CYC, wSR1, is-read, is-data, clear-word, Access}
+use Rattle.registers.specs.Machine.{Step, Handler, Act, access, next, handle, clear, since, polled-register, poll-error, poll-ready, after-poll}
 use Rattle.registers.specs.State.{State, at, then, resume, read, write}
 use Rattle.registers.specs.Contract.{outcome, outcome-of, handled, ReadsFrom, WritesFrom, Reaches, WaitsFrom}
 use Rattle.registers.proofs.Laws.{write-law, write-unfailed}
@@ -90,7 +90,7 @@ poll-step {w = w} g x e = rewritten (append-nil _) (read-step g x refl (polled-r
 
 -- a wait ends where a read has no word, and by its handler's steps
 pub wait-none : {s : Setup} {h : Handler} {q : List Step} {st : State} {i : Step} {q₁ : List Step} {st₁ : State} → Reaches s q st (i ∷ q₁) st₁
-    → {c : ℕ} {rs lg rx : List ℕ} {r : Taken} → ReadsFrom c st₁ rs lg rx r → access i ≡ Access.read c → is-read c ≡ true
+    → {c : ℕ} {rs lg rx : List ℕ} {r : Taken} → ReadsFrom c st₁ rs lg rx r → access i ≡ Act.make (Access.read c) → is-read c ≡ true
     → {k : Cut} {b : Progress} → r ≡ Taken.CutShort k b → WaitsFrom s h q st rs lg rx (outcome-of r)
 wait-none g x a t e = record { is = λ p. read-stops g x a t e .is p ∙ rw e }
 
