@@ -1,2 +1,3 @@
 pub mod Waits
+pub mod Flags
 pub mod Checks

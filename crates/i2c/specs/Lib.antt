@@ -1,1 +1,2 @@
 pub mod Polling
+pub mod Flags

@@ -29,6 +29,7 @@ ghost use Rattle.registers.specs.Word.{none, one, START, STOP};
 ghost use Rattle.registers.specs.Machine.{Step, bring-up, reset, send-start, check-word};
 ghost use Rattle.registers.specs.Access.{wDR};
 ghost use Rattle.registers.specs.Contract.{Writes, Checks, DoesWith, Does, Receives};
+ghost use Rattle.i2c.specs.Flags.{no-error-flag};
 ghost use Rattle.i2c.specs.Polling.{address-byte, request-write, address-write, prepare-write, request-read, address-read, prepare-read, send-byte, recv-byte, write-bytes, read-bytes, last-write, last-read, turn-write, turn-read, operation-steps};
 
 // The operation before, in a call.
@@ -137,6 +138,16 @@ fn first_error(word: u32, source: Source) -> Flagged
     Flagged::Nothing
 }
 
+// TIMEOUT, PECERR, OVR, AF, ARLO and BERR.
+const ERRORS: u32 = 0x5f00;
+
+// Whether an SR1 word has no error flag: one test for all of them.
+fn no_error_flag(sr1: u32) -> bool
+    ensures { λ r. ⌜ r ≡ no-error-flag sr1 ⌝ }
+{
+    sr1 & ERRORS == 0
+}
+
 // The errata say that BERR may be detected wrongly, and to clear it and go on.
 fn check_and_clear_error_flags(
     readings: &[u32],
@@ -150,13 +161,14 @@ fn check_and_clear_error_flags(
     let Taken::Word(sr1, next) = t else {
         return checked_of(t);
     };
+    if no_error_flag(sr1) {
+        return checked_of(t);
+    }
     let flagged = first_error(sr1, source);
     if let Flagged::Error(error) = flagged {
         return failed_of(clear_flag(log, next, error), error);
     }
-    if !has(sr1, registers::BERR) {
-        return checked_of(t);
-    }
+    // It is BERR.
     word_of(clear_flag(log, next, BusError::Bus), sr1)
 }
 

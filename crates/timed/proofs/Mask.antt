@@ -11,8 +11,9 @@ use Rattle.registers.specs.declared.Awaited.{Awaited}
 use Rattle.registers.specs.declared.BusError.{BusError}
 use Rattle.registers.specs.declared.Flagged.{Flagged}
 use Rattle.registers.specs.declared.Source.{Source}
-use Rattle.registers.specs.Word.{has}
+use Rattle.registers.specs.Word.{has, BERR, ARLO, AF, OVR}
 use Rattle.registers.specs.Machine.{poll-word, poll-error, poll-ready}
+use Rattle.registers.proofs.BitLaws.{on-is-one, off-is-zero, bits-from-berr}
 use Rattle.timed.specs.Poll.{waited-flag, no-error, over}
 
 -- f is the weight of one of the low eight bits
@@ -39,8 +40,8 @@ masked v {f} x =
 
 -- the error flags of a poll are those four bits
 clean : (n : Source) (v : ℕ) → no-error (poll-word n v) ≡ eqb (v / 256 % 16) 0
-unfolding poll-word has
-clean n v = go (eqb (v / 256 % 2) 1) (eqb (v / 512 % 2) 1) (eqb (v / 1024 % 2) 1) (eqb (v / 2048 % 2) 1) refl refl refl refl
+unfolding poll-word
+clean n v = go (v / 256 % 16) four (has BERR v) (has ARLO v) (has AF v) (has OVR v) refl refl refl refl
   where
     flagged : Bool → Bool → Bool → Bool → Flagged
     flagged a b c d =
@@ -50,24 +51,17 @@ clean n v = go (eqb (v / 256 % 2) 1) (eqb (v / 512 % 2) 1) (eqb (v / 1024 % 2) 1
         (cond d (Flagged.Error BusError.Overrun)
         Flagged.Nothing)))
 
-    set : (w : ℕ) → eqb (v / w % 2) 1 ≡ true → v / w % 2 ≡ 1
-    set w e = eqb-true _ _ e
+    four : v / 256 % 16 ≡ v / 256 % 2 + 2 * (v / 512 % 2) + 4 * (v / 1024 % 2) + 8 * (v / 2048 % 2)
+    four = omega (arith, bits-from-berr v)
 
-    clear : (w : ℕ) → eqb (v / w % 2) 1 ≡ false → v / w % 2 ≡ 0
-    clear w e = let h : v / w % 2 ≡ 1 → ⊥ = eqb-false _ _ e in omega arith
-
-    go : (a b c d : Bool) → eqb (v / 256 % 2) 1 ≡ a → eqb (v / 512 % 2) 1 ≡ b → eqb (v / 1024 % 2) 1 ≡ c → eqb (v / 2048 % 2) 1 ≡ d
-        → no-error (flagged a b c d) ≡ eqb (v / 256 % 16) 0
-    go true b c d ea eb ec ed = sym (ne-eqb (v / 256 % 16) 0 (λ (k : v / 256 % 16 ≡ 0). let z = set 256 ea in omega arith))
-    go false true c d ea eb ec ed = sym (ne-eqb (v / 256 % 16) 0 (λ (k : v / 256 % 16 ≡ 0). let z = set 512 eb in omega arith))
-    go false false true d ea eb ec ed = sym (ne-eqb (v / 256 % 16) 0 (λ (k : v / 256 % 16 ≡ 0). let z = set 1024 ec in omega arith))
-    go false false false true ea eb ec ed = sym (ne-eqb (v / 256 % 16) 0 (λ (k : v / 256 % 16 ≡ 0). let z = set 2048 ed in omega arith))
-    go false false false false ea eb ec ed =
-        let a : v / 256 % 2 ≡ 0 = clear 256 ea in
-        let b : v / 256 / 2 % 2 ≡ 0 = let h : v / 256 / 2 ≡ v / 512 = omega arith in rw h (clear 512 eb) in
-        let c : v / 256 / 2 / 2 % 2 ≡ 0 = let h : v / 256 / 2 / 2 ≡ v / 1024 = omega arith in rw h (clear 1024 ec) in
-        let d : v / 256 / 2 / 2 / 2 % 2 ≡ 0 = let h : v / 256 / 2 / 2 / 2 ≡ v / 2048 = omega arith in rw h (clear 2048 ed) in
-        sym (eq-eqb (v / 256 % 16) 0 (omega arith))
+    go : (m : ℕ) → m ≡ v / 256 % 2 + 2 * (v / 512 % 2) + 4 * (v / 1024 % 2) + 8 * (v / 2048 % 2)
+        → (a b c d : Bool) → has BERR v ≡ a → has ARLO v ≡ b → has AF v ≡ c → has OVR v ≡ d → no-error (flagged a b c d) ≡ eqb m 0
+    go m s true b c d ha hb hc hd = sym (ne-eqb m 0 (λ (z : m ≡ 0). omega (arith, on-is-one BERR v ha)))
+    go m s false true c d ha hb hc hd = sym (ne-eqb m 0 (λ (z : m ≡ 0). omega (arith, on-is-one ARLO v hb)))
+    go m s false false true d ha hb hc hd = sym (ne-eqb m 0 (λ (z : m ≡ 0). omega (arith, on-is-one AF v hc)))
+    go m s false false false true ha hb hc hd = sym (ne-eqb m 0 (λ (z : m ≡ 0). omega (arith, on-is-one OVR v hd)))
+    go m s false false false false ha hb hc hd =
+        sym (eq-eqb m 0 (s ∙ rw (off-is-zero BERR v ha, off-is-zero ARLO v hb, off-is-zero AF v hc, off-is-zero OVR v hd)))
 
 -- so the test is that of a poll
 both : {f : ℕ} → Low f → (v x b : ℕ) → b < 2 → bitAnd v (3840 + f) ≡ x * 256 + b * f → eqb (bitAnd v (3840 + f)) f ≡ eqb x 0 && eqb b 1

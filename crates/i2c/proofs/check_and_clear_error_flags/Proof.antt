@@ -1,6 +1,6 @@
-use mathlib.Core.Path.{sym, _∙_}
+use mathlib.Core.Path.{refl, sym, _∙_}
 use borrow.Author.Needs.{needs}
-use borrow.Author.Tests.{not-true, not-false}
+use Rattle.i2c.proofs.Flags.{nothing-found, berr-found}
 use Rattle.i2c.proofs.Checks.{check-none, check-fine, check-error, check-spurious}
 use Rattle.i2c.proofs.check_and_clear_error_flags.Statement.{statement}
 use Rattle.i2c.proofs.check_and_clear_error_flags.Tie as tie
@@ -10,37 +10,35 @@ returns c rx = rw (c .checked-of .ensures) (check-none (c .before .before .befor
 
 returns-2 : tie.Need-returns-2
 returns-2 c rx =
+    let at-test = c .before .before in
+    let at-t = at-test .before .before in
+    let at-read = at-t .before .before .before .before in
+    let none = nothing-found _ _ (sym (at-test .no-error-flag .ensures) ∙ c .before .if1 .taken) in
+    rw (c .checked-of2 .ensures) (check-fine (at-read .read .ensures rx) (at-t .t .given .1) (none .0) refl (none .1))
+
+returns-3 : tie.Need-returns-3
+returns-3 c rx =
     let at-clear-flag = c .before .before .before in
     let at-flagged = at-clear-flag .before .before .before in
     let at-first-error = at-flagged .before .before in
-    let at-t = at-first-error .before .before in
+    let at-t = at-first-error .before .before .before .before in
     let at-read = at-t .before .before .before .before in
     rw (c .failed-of .ensures)
     (check-error (at-read .read .ensures rx) (at-t .t .given .1) (at-first-error .first-error .ensures) (at-flagged .flagged .given .1) (at-clear-flag .clear-flag .ensures _ rx))
 
-returns-3 : tie.Need-returns-3
-returns-3 c rx =
-    let at-has = c .before .before in
-    let at-enum-told2 = at-has .before in
-    let at-first-error = at-enum-told2 .before .before in
-    let at-t = at-first-error .before .before in
-    let at-read = at-t .before .before .before .before in
-    rw (c .checked-of2 .ensures)
-    (check-fine (at-read .read .ensures rx) (at-t .t .given .1) (at-first-error .first-error .ensures) (at-enum-told2 .enum-told2 .given .1)
-    (sym (at-has .has .ensures) ∙ not-true _ (c .before .if1 .taken)))
-
 returns-4 : tie.Need-returns-4
 returns-4 c rx =
     let at-clear-flag2 = c .before .before .before in
-    let at-if1 = at-clear-flag2 .before .before in
-    let at-has = at-if1 .before in
-    let at-enum-told2 = at-has .before in
+    let at-enum-told2 = at-clear-flag2 .before .before in
     let at-first-error = at-enum-told2 .before .before in
-    let at-t = at-first-error .before .before in
+    let at-test = at-first-error .before .before in
+    let at-t = at-test .before .before in
     let at-read = at-t .before .before .before .before in
+    let none = at-enum-told2 .enum-told2 .given .1 in
     rw (c .word-of .ensures)
-    (check-spurious (at-read .read .ensures rx) (at-t .t .given .1) (at-first-error .first-error .ensures) (at-enum-told2 .enum-told2 .given .1)
-    (sym (at-has .has .ensures) ∙ not-false _ (at-if1 .if1 .left)) (at-clear-flag2 .clear-flag2 .ensures _ rx))
+    (check-spurious (at-read .read .ensures rx) (at-t .t .given .1) (at-first-error .first-error .ensures) none
+    (berr-found _ _ (sym (at-test .no-error-flag .ensures) ∙ at-first-error .before .if1 .left) (sym none ∙ at-first-error .first-error .ensures))
+    (at-clear-flag2 .clear-flag2 .ensures _ rx))
 
 pub check-and-clear-error-flags-spec : {M : Type 1} → statement M
 check-and-clear-error-flags-spec =
@@ -53,16 +51,16 @@ check-and-clear-error-flags-spec =
     (λ c. search needs)
     returns
     (λ c κs. search needs)
-    (λ c. search needs)
-    (λ c κs. search needs)
     (λ c κs. search needs)
     (λ c. search needs)
     returns-2
+    (λ c κs. search needs)
     (λ c. search needs)
     (λ c κs. search needs)
     (λ c κs. search needs)
     (λ c. search needs)
     returns-3
+    (λ c. search needs)
     (λ c κs. search needs)
     (λ c κs. search needs)
     (λ c. search needs)
