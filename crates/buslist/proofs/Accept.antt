@@ -192,7 +192,8 @@ calls-received l [] = 0
 calls-received l (c ∷ cs) = all-received (operations-of l c) + calls-received l cs
 
 -- right calls after `sum` operations receive what the n operations from there on do
-calls-received-from : (l : List ℕ) (sum : ℕ) (cs : List CallEntry) → calls-right l sum cs ≡ true → (n : ℕ) × (sum + n ≡ operation-count l) × (calls-received l cs ≡ all-received (entries (operation-at l) sum n))
+calls-received-from : (l : List ℕ) (sum : ℕ) (cs : List CallEntry) → calls-right l sum cs ≡ true
+    → (n : ℕ) × (sum + n ≡ operation-count l) × (calls-received l cs ≡ all-received (entries (operation-at l) sum n))
 unfolding calls-received calls-right entries all-received
 calls-received-from l sum [] e = (0, omega (arith, eqb-true sum (operation-count l) e), refl)
 calls-received-from l sum (c ∷ cs) e =

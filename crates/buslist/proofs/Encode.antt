@@ -97,7 +97,8 @@ unfolding operation-of
 operation-meant l p (write bs) q sum e h = rw (← h, e, drop-append-seam, take-append-seam)
 operation-meant l p (read n) q sum e h = refl
 
-operations-meant : (l p : List ℕ) (os : List Operation) (q : List ℕ) (sum : ℕ) → l ≡ p ++ (flatMap data-of os ++ q) → length p ≡ data-offset l + sum → map (operation-of l) (operation-entries sum os) ≡ os
+operations-meant : (l p : List ℕ) (os : List Operation) (q : List ℕ) (sum : ℕ) → l ≡ p ++ (flatMap data-of os ++ q) → length p ≡ data-offset l + sum
+    → map (operation-of l) (operation-entries sum os) ≡ os
 unfolding flatMap operation-entries
 operations-meant l p [] q sum e h = refl
 operations-meant l p (o ∷ os) q sum e h =
@@ -188,7 +189,17 @@ module _ (s : Settings) (cs : List Call) where
   pub encoded-settings : settings-of (encode s cs) ≡ s
   unfolding settings-of header-words header
   encoded-settings =
-      rw (encoded-word 6 (lit< tt), encoded-word 7 (lit< tt), encoded-word 8 (lit< tt), mode-back (s .mode), encoded-word 9 (lit< tt), encoded-word 10 (lit< tt), encoded-word 11 (lit< tt), encoded-word 12 (lit< tt), encoded-word 13 (lit< tt))
+      rw (
+        encoded-word 6 (lit< tt),
+        encoded-word 7 (lit< tt),
+        encoded-word 8 (lit< tt),
+        mode-back (s .mode),
+        encoded-word 9 (lit< tt),
+        encoded-word 10 (lit< tt),
+        encoded-word 11 (lit< tt),
+        encoded-word 12 (lit< tt),
+        encoded-word 13 (lit< tt),
+      )
 
   -- the call table is read back
   pub encoded-table : calls (encode s cs) ≡ call-entries 0 cs

@@ -66,7 +66,9 @@ module _ {A : Type 0} (test : A → Bool) (entry : ℕ → A) (j n : ℕ) where
   any-none h = rw (entries-end entry j n h)
 
 module _ (entry : ℕ → OperationEntry) (j n : ℕ) (h : j < n) where
-  pub operations-right-step : (total sum : ℕ) → operations-right total sum (entries entry j (n - j)) ≡ (operation-right sum (entry j) && operations-right total (sum + written (entry j)) (entries entry (j + 1) (n - (j + 1))))
+  pub operations-right-step : (total sum : ℕ)
+      → operations-right total sum (entries entry j (n - j))
+      ≡ (operation-right sum (entry j) && operations-right total (sum + written (entry j)) (entries entry (j + 1) (n - (j + 1))))
   unfolding operations-right
   operations-right-step total sum = rw (entries-step entry j n h)
 
@@ -74,7 +76,8 @@ module _ (entry : ℕ → OperationEntry) (j n : ℕ) (h : j < n) where
   unfolding all-received
   all-received-step = rw (entries-step entry j n h)
 
-pub calls-right-step : (l : List ℕ) (entry : ℕ → CallEntry) (sum k n : ℕ) → k < n → calls-right l sum (entries entry k (n - k)) ≡ (call-right l sum (entry k) && calls-right l (sum + entry k .count) (entries entry (k + 1) (n - (k + 1))))
+pub calls-right-step : (l : List ℕ) (entry : ℕ → CallEntry) (sum k n : ℕ) → k < n
+    → calls-right l sum (entries entry k (n - k)) ≡ (call-right l sum (entry k) && calls-right l (sum + entry k .count) (entries entry (k + 1) (n - (k + 1))))
 unfolding calls-right
 calls-right-step l entry sum k n h = rw (entries-step entry k n h)
 

@@ -146,19 +146,20 @@ bytes-of [] = []
 bytes-of (write bs ∷ os) = bs
 bytes-of (read n ∷ os) = []
 
-abbrev receive-bytes : List Reduced → List ℕ
-receive-bytes [] = []
-receive-bytes (c ∷ cs) = bytes-of (c .operations)
+abbrev first-bytes : List Reduced → List ℕ
+first-bytes [] = []
+first-bytes (c ∷ cs) = bytes-of (c .operations)
 
 -- lists whose first operations have another second byte have unlike reduced calls
-unlike : {l m : List ℕ} {rx : ℕ} {readings : List ℕ} → (byte (receive-bytes (reduced-calls l)) 1 ≡ byte (receive-bytes (reduced-calls m)) 1 → ⊥) → settings-words l ≡ settings-words m → any idle (calls-of l) ≡ false → any idle (calls-of m) ≡ false
+unlike : {l m : List ℕ} {rx : ℕ} {readings : List ℕ} → (byte (first-bytes (reduced-calls l)) 1 ≡ byte (first-bytes (reduced-calls m)) 1 → ⊥)
+    → settings-words l ≡ settings-words m → any idle (calls-of l) ≡ false → any idle (calls-of m) ≡ false
     → Accepted l rx → Accepted m rx → run l readings rx 100 .answer ≡ 0 → run m readings rx 100 .answer ≡ 0 → Unlike l m rx readings
 unlike bytes same busy busy′ accepted accepted′ ends ends′ =
     record {
       comparable = record { settings = same; busy = busy; busy′ = busy′ };
       accepted = accepted;
       accepted′ = accepted′;
-      unlike-calls = λ e. bytes (ap (λ cs. byte (receive-bytes cs) 1) e);
+      unlike-calls = λ e. bytes (ap (λ cs. byte (first-bytes cs) 1) e);
       ends = ends;
       ends′ = ends′;
     }

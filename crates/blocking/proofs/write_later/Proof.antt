@@ -32,8 +32,7 @@ after-bytes-requires c κs = let e = c .before .before .write-ready .ensures in 
 
 add-i : tie.Need-add-i Inv-loop μ-loop
 add-i c =
-    let a = c in
-    let r = a .before .before .before in
+    let r = c .before .before .before in
     let l = r .before .before .before in
     let x = l .before .before .before .before .before in
     omega (arith, first-of (x .args .bytes .now) (l .loop .i) (r .write-ready .ensures), l .loop .inv .2, x)
@@ -47,77 +46,85 @@ returns c rx =
     let t : length (x .args .bytes .now) ≤ l .loop .i + r .write-ready .result = omega (arith, c .if1 .taken) in
     waits-well (rewritten (no-byte _ _ _ t) (first-step _ _ (r .write-ready .ensures) (a .after-bytes .ensures) (l .loop .inv .0 _ rx refl)))
 
+-- past the test for the end there is a byte that was not ready
+abbrev At-byte : tie.Else1 Inv-loop μ-loop → Type 0
+At-byte c =
+    let r = c .before .before .before .before in
+    let l = r .before .before .before in
+    l .loop .i + r .write-ready .result < length (l .before .before .before .before .before .args .bytes .now)
+
+a-byte : (c : tie.Else1 Inv-loop μ-loop) → At-byte c
+a-byte c =
+    let r = c .before .before .before .before in
+    let l = r .before .before .before in
+    let x = l .before .before .before .before .before in
+    omega (arith, c .if1 .left, first-of (x .args .bytes .now) (l .loop .i) (r .write-ready .ensures), l .loop .inv .2)
+
 returns-2 : tie.Need-returns-2 Inv-loop μ-loop
 returns-2 c rx =
-    let a = c .before .before .before .before .before .before in
+    let at-wait = c .before .before .before in
+    let at-byte = at-wait .before .before in
+    let a = at-byte .before in
     let r = a .before .before .before in
     let l = r .before .before .before in
-    let x = l .before .before .before .before .before in
-    let t : l .loop .i + r .write-ready .result < length (x .args .bytes .now) = omega (arith, c .before .before .before .before .before .if1 .left, first-of (x .args .bytes .now) (l .loop .i) (r .write-ready .ensures), l .loop .inv .2) in
-    wait-stops (c .before .before .before .busy-wait-flag .ensures _ _ rx) _
-    (rewritten (next-byte _ refl _ _ t) (first-step _ _ (r .write-ready .ensures) (a .after-bytes .ensures) (l .loop .inv .0 _ rx refl))) (c .match .keys2)
+    wait-stops (at-wait .busy-wait-flag .ensures _ _ rx) _
+    (rewritten (next-byte _ refl _ _ (a-byte at-byte)) (first-step _ _ (r .write-ready .ensures) (a .after-bytes .ensures) (l .loop .inv .0 _ rx refl)))
+    (c .match .keys2)
 
 shared-slice-read-write : tie.Need-shared-slice-read-write Inv-loop μ-loop
-shared-slice-read-write c =
-    let a = c .before .before .before .before .before .before .before .before .before .before in
-    let r = a .before .before .before in
-    let l = r .before .before .before in
-    let x = l .before .before .before .before .before in
-    let t : l .loop .i + r .write-ready .result < length (x .args .bytes .now) = omega (arith, c .before .before .before .before .before .before .before .before .before .if1 .left, first-of (x .args .bytes .now) (l .loop .i) (r .write-ready .ensures), l .loop .inv .2) in
-    t
+shared-slice-read-write c = a-byte (c .before .before .before .before .before .before .before .before .before)
 
 cast-write : tie.Need-cast-write Inv-loop μ-loop
 cast-write c =
-    let a = c .before .before .before .before .before .before .before .before .before .before in
-    let r = a .before .before .before in
+    let at-wait = c .before .before .before .before .before .before .before in
+    let r = at-wait .before .before .before .before .before .before in
     let l = r .before .before .before in
-    let x = l .before .before .before .before .before in
     omega (arith, c .shared-slice-known3 .given (l .loop .i + r .write-ready .result))
 
 returns-3 : tie.Need-returns-3 Inv-loop μ-loop
 returns-3 c rx =
-    let a = c .before .before .before .before .before .before .before .before .before .before .before .before .before .before in
+    let at-write = c .before .before .before in
+    let at-w = at-write .before .before .before .before in
+    let at-wait = at-w .before .before .before .before in
+    let at-byte = at-wait .before .before in
+    let a = at-byte .before in
     let r = a .before .before .before in
     let l = r .before .before .before in
-    let x = l .before .before .before .before .before in
-    let t : l .loop .i + r .write-ready .result < length (x .args .bytes .now) = omega (arith, c .before .before .before .before .before .before .before .before .before .before .before .before .before .if1 .left, first-of (x .args .bytes .now) (l .loop .i) (r .write-ready .ensures), l .loop .inv .2) in
-    wait-stops (settles (put-unfailing _ _ refl nothing-fails) (write-last here (c .before .before .before .write .ensures _ rx) refl)) _
-    (wait-step (c .before .before .before .before .before .before .before .before .before .before .before .busy-wait-flag .ensures _ _ rx) _
-    (rewritten (next-byte _ refl _ _ t) (first-step _ _ (r .write-ready .ensures) (a .after-bytes .ensures) (l .loop .inv .0 _ rx refl)))
-    (c .before .before .before .before .before .before .before .w .given .1))
+    wait-stops (settles (put-unfailing _ _ refl nothing-fails) (write-last here (at-write .write .ensures _ rx) refl)) _
+    (wait-step (at-wait .busy-wait-flag .ensures _ _ rx) _
+    (rewritten (next-byte _ refl _ _ (a-byte at-byte)) (first-step _ _ (r .write-ready .ensures) (a .after-bytes .ensures) (l .loop .inv .0 _ rx refl)))
+    (at-w .w .given .1))
     (c .match2 .keys2)
+
+-- the byte that the loop ends its pass with
+abbrev last-byte : tie.After-known-told2 Inv-loop μ-loop → tie.Else1 Inv-loop μ-loop
+last-byte c =
+    let at-write = c .before .before .before .before .before in
+    let at-wait = at-write .before .before .before .before .before .before .before .before in
+    at-wait .before .before
 
 add-i-2 : tie.Need-add-i-2 Inv-loop μ-loop
 add-i-2 c =
-    let a = c .before .before .before .before .before .before .before .before .before .before .before .before .before .before .before .before in
-    let r = a .before .before .before in
-    let l = r .before .before .before in
-    let x = l .before .before .before .before .before in
-    let t : l .loop .i + r .write-ready .result < length (x .args .bytes .now) = omega (arith, c .before .before .before .before .before .before .before .before .before .before .before .before .before .before .before .if1 .left, first-of (x .args .bytes .now) (l .loop .i) (r .write-ready .ensures), l .loop .inv .2) in
-    omega (arith, t, x)
+    let l = last-byte c .before .before .before .before .before .before .before in
+    omega (arith, a-byte (last-byte c), l .before .before .before .before .before)
 
 loop-less : tie.Need-loop-less Inv-loop μ-loop
-loop-less c =
-    let a = c .before .before .before .before .before .before .before .before .before .before .before .before .before .before .before .before in
-    let r = a .before .before .before in
-    let l = r .before .before .before in
-    let x = l .before .before .before .before .before in
-    let t : l .loop .i + r .write-ready .result < length (x .args .bytes .now) = omega (arith, c .before .before .before .before .before .before .before .before .before .before .before .before .before .before .before .if1 .left, first-of (x .args .bytes .now) (l .loop .i) (r .write-ready .ensures), l .loop .inv .2) in
-    omega (arith, t)
+loop-less c = omega (arith, a-byte (last-byte c))
 
 loop-again : tie.Need-loop-again Inv-loop μ-loop
 loop-again c =
-    let a = c .before .before .before .before .before .before .before .before .before .before .before .before .before .before .before .before in
+    let at-write = c .before .before .before .before .before in
+    let at-w = at-write .before .before .before .before in
+    let at-wait = at-w .before .before .before .before in
+    let at-byte = at-wait .before .before in
+    let a = at-byte .before in
     let r = a .before .before .before in
-    let l = r .before .before .before in
-    let x = l .before .before .before .before .before in
-    let t : l .loop .i + r .write-ready .result < length (x .args .bytes .now) = omega (arith, c .before .before .before .before .before .before .before .before .before .before .before .before .before .before .before .if1 .left, first-of (x .args .bytes .now) (l .loop .i) (r .write-ready .ensures), l .loop .inv .2) in (
-      (λ s rx e. write-step (wait-step (c .before .before .before .before .before .before .before .before .before .before .before .before .before .busy-wait-flag .ensures s _ rx) _
-          (rewritten (next-byte s e _ _ t) (first-step _ _ (r .write-ready .ensures) (a .after-bytes .ensures) (l .loop .inv .0 s rx e)))
-          (c .before .before .before .before .before .before .before .before .before .w .given .1)) (c .before .before .before .before .before .write .ensures _ rx) refl
-          (c .before .o .given .1)),
-      omega (arith, l .loop .inv .1, r .write-ready .kept, c .before .before .before .before .before .before .before .before .before .before .before .before .before .busy-wait-flag .kept, c .before .before .before .before .before .write .kept),
-      omega (arith, t),
+    let l = r .before .before .before in (
+      (λ s rx e. write-step (wait-step (at-wait .busy-wait-flag .ensures s _ rx) _
+          (rewritten (next-byte s e _ _ (a-byte at-byte)) (first-step _ _ (r .write-ready .ensures) (a .after-bytes .ensures) (l .loop .inv .0 s rx e)))
+          (at-w .w .given .1)) (at-write .write .ensures _ rx) refl (c .before .o .given .1)),
+      omega (arith, l .loop .inv .1, r .write-ready .kept, at-wait .busy-wait-flag .kept, at-write .write .kept),
+      omega (arith, a-byte at-byte),
     )
 
 pub write-later-spec : {M : Type 1} → statement M

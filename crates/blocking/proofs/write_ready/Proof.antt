@@ -28,8 +28,10 @@ loop-holds c = ((λ s rx. none-done s _ _ _ rx _), refl, omega arith)
 
 after-bytes-requires : tie.Need-after-bytes-requires Inv-loop μ-loop
 after-bytes-requires c κs =
-    let e = c .before .before .bytes-that-fit .ensures in
-    (omega (arith, c .loop-test .taken, e .1, c .before .before .before .before .before .before .before), omega (arith, c .loop-test .taken, e .2, c .before .before .before .before .before .before .before))
+    let at-count = c .before .before in
+    let x = at-count .before .before .before .before .before in
+    let e = at-count .bytes-that-fit .ensures in
+    (omega (arith, c .loop-test .taken, e .1, x), omega (arith, c .loop-test .taken, e .2, x))
 
 first-sr1-requires : tie.Need-first-sr1-requires Inv-loop μ-loop
 first-sr1-requires c κs =
@@ -43,30 +45,35 @@ same-length c = search needs
 
 returns : tie.Need-returns Inv-loop μ-loop
 returns c =
-    let e = c .before .before .before .before .before .before .bytes-that-fit .ensures in
-    let i = c .before .before .before .before .before .loop .inv in
+    let l = c .before .before .before .before .before in
+    let at-count = l .before in
+    let x = at-count .before .before .before .before .before in
+    let e = at-count .bytes-that-fit .ensures in
+    let i = l .loop .inv in
     record {
       of-them = omega (arith, e .0, i .2);
-      used = omega (arith, e .1, i .2, c .before .before .before .before .before .before .before .before .before .before .before);
-      made = omega (arith, e .2, i .2, c .before .before .before .before .before .before .before .before .before .before .before);
+      used = omega (arith, e .1, i .2, x);
+      made = omega (arith, e .2, i .2, x);
       done = i .0;
     }
 
 shared-slice-read-write-at-once : tie.Need-shared-slice-read-write-at-once Inv-loop μ-loop
 shared-slice-read-write-at-once c =
-    omega (arith, c .before .before .before .before .before .before .loop-test .taken, c .before .before .before .before .before .before .before .before .bytes-that-fit .ensures .0)
+    let at-test = c .before .before .before .before .before .before in
+    omega (arith, at-test .loop-test .taken, at-test .before .before .bytes-that-fit .ensures .0)
 
 cast-write-at-once : tie.Need-cast-write-at-once Inv-loop μ-loop
 cast-write-at-once c = omega (arith, c .shared-slice-known3 .given (c .before .before .before .before .before .before .before .loop .i))
 
 write-at-once-requires : tie.Need-write-at-once-requires Inv-loop μ-loop
 write-at-once-requires c κs =
-    let a = c .before .before .before .before .before .after-bytes .ensures in
-    let e = c .before .before .before .before .before .before .before .before .bytes-that-fit .ensures in (
-      omega (arith, ap (λ (z : Progress). z .used) a, c .before .before .before .before .before .before .loop-test .taken, e .1),
-      omega
-          (arith, ap (λ (z : Progress). z .made) a, c .before .before .before .before .before .before .loop-test .taken, e .2, c .before .before .before .before .before .before .before .loop .inv .1),
-    )
+    let at-after = c .before .before .before .before .before in
+    let at-test = at-after .before in
+    let l = at-test .before in
+    let a = at-after .after-bytes .ensures in
+    let t = at-test .loop-test .taken in
+    let e = l .before .bytes-that-fit .ensures in
+    (omega (arith, ap (λ (z : Progress). z .used) a, t, e .1), omega (arith, ap (λ (z : Progress). z .made) a, t, e .2, l .loop .inv .1))
 
 add-i : tie.Need-add-i Inv-loop μ-loop
 add-i c = search needs
@@ -77,16 +84,22 @@ loop-less c = search needs
 loop-again : tie.Need-loop-again Inv-loop μ-loop
 loop-again c =
     let w = c .before .before in
-    let a = c .before .before .before .before .before .before .before .before in
-    let e = c .before .before .before .before .before .before .before .before .before .before .before .bytes-that-fit .ensures in
-    let x = c .before .before .before .before .before .before .before .before .before .before .before .before .before .before .before .before .args in
-    let l = c .before .before .before .before .before .before .before .before .before .before .loop in
+    let at-if = w .before .before .before in
+    let at-wait = at-if .before in
+    let at-sr1 = at-wait .before in
+    let a = at-sr1 .before in
+    let at-test = a .before in
+    let at-loop = at-test .before in
+    let at-count = at-loop .before in
+    let x = at-count .before .before .before .before .before .args in
+    let l = at-loop .loop in
     let i = l .inv in
-    let t = c .before .before .before .before .before .before .before .before .before .loop-test .taken in (
+    let t = at-test .loop-test .taken in
+    let e = at-count .bytes-that-fit .ensures in (
       (λ s rx. rw (w .write-at-once .ensures, a .after-bytes .ensures)
           (byte-at-once s _ (x .readings .now) _ rx (x .progress) (l .i) (omega (arith, t, e .0)) (omega (arith, t, e .1)) (omega (arith, t, e .2, i .1))
-          (over-at-once (x .readings .now) (x .progress) (l .i) (a .after-bytes .ensures) (c .before .before .before .before .before .before .before .first-sr1 .ensures)
-          (c .before .before .before .before .before .before .wait-for-flag .ensures) (not-false _ (c .before .before .before .before .before .if1 .left))) (i .0 s rx))),
+          (over-at-once (x .readings .now) (x .progress) (l .i) (a .after-bytes .ensures) (at-sr1 .first-sr1 .ensures) (at-wait .wait-for-flag .ensures)
+          (not-false _ (at-if .if1 .left))) (i .0 s rx))),
       omega (arith, i .1, w .write-at-once .kept),
       omega (arith, t),
     )
@@ -96,12 +109,15 @@ same-length-2 c = search needs
 
 returns-2 : tie.Need-returns-2 Inv-loop μ-loop
 returns-2 c =
-    let e = c .before .before .bytes-that-fit .ensures in
-    let i = c .before .loop .inv in
+    let l = c .before in
+    let at-count = l .before in
+    let x = at-count .before .before .before .before .before in
+    let e = at-count .bytes-that-fit .ensures in
+    let i = l .loop .inv in
     record {
       of-them = omega (arith, e .0, i .2);
-      used = omega (arith, e .1, i .2, c .before .before .before .before .before .before .before);
-      made = omega (arith, e .2, i .2, c .before .before .before .before .before .before .before);
+      used = omega (arith, e .1, i .2, x);
+      made = omega (arith, e .2, i .2, x);
       done = i .0;
     }
 

@@ -35,7 +35,9 @@ returns-2 c =
     let at-if1 = c .before .before in
     let at-is-polling = at-if1 .before in
     let at-start = at-is-polling .before .before in
-    let a = at-start .args in rw (blocking-call _ (sym (at-is-polling .is-polling .ensures) ∙ at-if1 .if1 .left)) (sym (passed-over (a .previous) (operation-of (a .list .now) (a .o)) (sym (c .before .is-empty .ensures) ∙ c .if2 .taken)))
+    let a = at-start .args in
+    rw (blocking-call _ (sym (at-is-polling .is-polling .ensures) ∙ at-if1 .if1 .left))
+    (sym (passed-over (a .previous) (operation-of (a .list .now) (a .o)) (sym (c .before .is-empty .ensures) ∙ c .if2 .taken)))
 
 returns-3 : tie.Need-returns-3
 unfolding moved
@@ -44,7 +46,9 @@ returns-3 c =
     let at-if1 = at-is-empty .before in
     let at-is-polling = at-if1 .before in
     let at-start = at-is-polling .before .before in
-    let a = at-start .args in rw (blocking-call _ (sym (at-is-polling .is-polling .ensures) ∙ at-if1 .if1 .left)) (c .direction2 .ensures (a .list .now) ∙ sym (not-passed (a .previous) (operation-of (a .list .now) (a .o)) (sym (at-is-empty .is-empty .ensures) ∙ c .before .if2 .left)))
+    let a = at-start .args in
+    rw (blocking-call _ (sym (at-is-polling .is-polling .ensures) ∙ at-if1 .if1 .left))
+    (c .direction2 .ensures (a .list .now) ∙ sym (not-passed (a .previous) (operation-of (a .list .now) (a .o)) (sym (at-is-empty .is-empty .ensures) ∙ c .before .if2 .left)))
 
 pub moved-spec : {M : Type 1} → statement M
 moved-spec =

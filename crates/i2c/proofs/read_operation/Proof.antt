@@ -16,14 +16,16 @@ use Rattle.i2c.proofs.read_operation.Statement.{statement}
 use Rattle.i2c.proofs.read_operation.Tie as tie
 
 -- an empty read that ends before its turn
-none-early : (early : Bool) (n : ℕ) (a : ℕ) (p : Previous) (last : Bool) → (early && eqb n 0) ≡ true → operation-steps early a p last (Operation.read n) ≡ Step.fail BusError.Overrun ∷ transfer last (Operation.read n)
+none-early : (early : Bool) (n : ℕ) (a : ℕ) (p : Previous) (last : Bool) → (early && eqb n 0) ≡ true
+    → operation-steps early a p last (Operation.read n) ≡ Step.fail BusError.Overrun ∷ transfer last (Operation.read n)
 unfolding turn
 none-early true zero a p last e = refl
 none-early true (suc n) a p last e = let h = eqb-true (suc n) 0 e in absurd (omega arith)
 none-early false n a p last e = absurd (false≢true e)
 
 -- the steps of any other, the last one or not
-reads : (early : Bool) (n : ℕ) (b : Bool) {last : Bool} (a : ℕ) (p : Previous) → (early && eqb n 0) ≡ false → last ≡ b → operation-steps early a p last (Operation.read n) ≡ turn-read a p ++ cond b (last-read n) (read-bytes n)
+reads : (early : Bool) (n : ℕ) (b : Bool) {last : Bool} (a : ℕ) (p : Previous) → (early && eqb n 0) ≡ false → last ≡ b
+    → operation-steps early a p last (Operation.read n) ≡ turn-read a p ++ cond b (last-read n) (read-bytes n)
 unfolding turn transfer
 reads true zero b a p h e = absurd (false≢true (sym h))
 reads true (suc n) true a p h e = rw e

@@ -11,7 +11,8 @@ use Rattle.i2c.proofs.write_operation.Statement.{statement}
 use Rattle.i2c.proofs.write_operation.Tie as tie
 
 -- the steps of a write, the last one or not
-writes : (early b : Bool) {last : Bool} (a : ℕ) (p : Previous) (bytes : List ℕ) → last ≡ b → operation-steps early a p last (Operation.write bytes) ≡ turn-write a p ++ cond b (last-write bytes) (write-bytes bytes)
+writes : (early b : Bool) {last : Bool} (a : ℕ) (p : Previous) (bytes : List ℕ) → last ≡ b
+    → operation-steps early a p last (Operation.write bytes) ≡ turn-write a p ++ cond b (last-write bytes) (write-bytes bytes)
 unfolding turn transfer
 writes true true a p bytes e = rw e
 writes true false a p bytes e = rw e

@@ -1,7 +1,7 @@
 use Prim.Native.Nat.{ℕ}
 use native.Mathlib.Omega.{arith}
 use mathlib.Core.Path.{_≡_, refl, sym, _∙_}
-use mathlib.Core.List.{List, []}
+use mathlib.Core.List.{List, [], _∷_}
 use lib.ListN.{length}
 use borrow.Author.Needs.{needs}
 use borrow.Author.Tests.{not-true, not-false}
@@ -39,15 +39,23 @@ returns c s h rx =
     rw (c .failed-poll .ensures) (wait-failed _ _ _ _ (at-loop .loop .inv .0 s h rx) (sym (at-poll-error .poll-error .ensures) ∙ at-flagged .flagged .given .1)
     (at-clear-flag .clear-flag .ensures _ rx))
 
+-- a poll that found neither the flag nor an error: the next CYC read
+goes-late : (c : tie.After-enum-told Inv-loop μ-loop) (s : Setup) (h : Handler)
+    → let l = c .before .before .before .before .before in
+    let x = l .before .before .before .args in
+    next s (Step.poll (x .awaited) (x .limit .0) h (x .start)) (l .loop .word) ≡ Step.late (x .awaited) (x .limit .0) h (x .start) ∷ []
+goes-late c s h =
+    let at-poll-error = c .before .before in
+    let at-if1 = at-poll-error .before in
+    next-waits s _ _ h _ _ (sym (at-if1 .before .wait-over .ensures) ∙ not-true _ (at-if1 .if1 .taken))
+    (sym (at-poll-error .poll-error .ensures) ∙ c .enum-told .given .1)
+
 returns-2 : tie.Need-returns-2 Inv-loop μ-loop
 returns-2 c s h rx =
     let at-read = c .before .before .before .before .before in
     let at-enum-told = at-read .before .before in
-    let at-poll-error = at-enum-told .before .before in
-    let at-if1 = at-poll-error .before in
-    let at-wait-over = at-if1 .before in
-    let at-loop = at-wait-over .before in
-    let late = rewritten (next-waits s _ _ h _ _ (sym (at-wait-over .wait-over .ensures) ∙ not-true _ (at-if1 .if1 .taken)) (sym (at-poll-error .poll-error .ensures) ∙ at-enum-told .enum-told .given .1)) (at-loop .loop .inv .0 s h rx) in
+    let at-loop = at-enum-told .before .before .before .before .before in
+    let late = rewritten (goes-late at-enum-told s h) (at-loop .loop .inv .0 s h rx) in
     rw (c .outcome-of .ensures) (wait-none late (at-read .read .ensures rx) refl refl (c .before .enum-told2 .given .1))
 
 returns-3 : tie.Need-returns-3 Inv-loop μ-loop
@@ -55,16 +63,15 @@ returns-3 c s h rx =
     let at-c = c .before .before .before in
     let at-read = at-c .before .before .before .before in
     let at-enum-told = at-read .before .before in
-    let at-poll-error = at-enum-told .before .before in
-    let at-if1 = at-poll-error .before in
-    let at-wait-over = at-if1 .before in
-    let at-loop = at-wait-over .before in
-    let late = rewritten (next-waits s _ _ h _ _ (sym (at-wait-over .wait-over .ensures) ∙ not-true _ (at-if1 .if1 .taken)) (sym (at-poll-error .poll-error .ensures) ∙ at-enum-told .enum-told .given .1)) (at-loop .loop .inv .0 s h rx) in
+    let at-loop = at-enum-told .before .before .before .before .before in
+    let late = rewritten (goes-late at-enum-told s h) (at-loop .loop .inv .0 s h rx) in
     ends-handled (read-step late (at-read .read .ensures rx) refl refl refl (at-c .c .given .1) (next-late s _ _ h _ _ (sym (c .before .timed-out .ensures) ∙ c .if2 .taken)))
 
 read-requires-2 : tie.Need-read-requires-2 Inv-loop μ-loop
 read-requires-2 c κs =
-    let at-start = c .before .before .before .before .before .before .before .before .before .before .before .before .before .before .before .before .before .before .before in
+    let at-c = c .before .before .before .before .before in
+    let at-enum-told = at-c .before .before .before .before .before .before in
+    let at-start = at-enum-told .before .before .before .before .before .before .before .before in
     rw (c .polled-register .ensures) (polled-read (at-start .args .awaited))
 
 returns-4 : tie.Need-returns-4 Inv-loop μ-loop
@@ -76,12 +83,9 @@ returns-4 c s h rx =
     let at-c = at-timed-out .before .before in
     let at-read = at-c .before .before .before .before in
     let at-enum-told = at-read .before .before in
-    let at-poll-error = at-enum-told .before .before in
-    let at-if1 = at-poll-error .before in
-    let at-wait-over = at-if1 .before in
-    let at-loop = at-wait-over .before in
+    let at-loop = at-enum-told .before .before .before .before .before in
     let at-start = at-loop .before .before .before in
-    let late = rewritten (next-waits s _ _ h _ _ (sym (at-wait-over .wait-over .ensures) ∙ not-true _ (at-if1 .if1 .taken)) (sym (at-poll-error .poll-error .ensures) ∙ at-enum-told .enum-told .given .1)) (at-loop .loop .inv .0 s h rx) in
+    let late = rewritten (goes-late at-enum-told s h) (at-loop .loop .inv .0 s h rx) in
     let poll = read-step late (at-read .read .ensures rx) refl refl refl (at-c .c .given .1) (next-late s _ _ h _ _ (sym (at-timed-out .timed-out .ensures) ∙ at-if2 .if2 .left)) in
     rw (c .outcome-of2 .ensures) (wait-none poll (rw (at-polled-register .polled-register .ensures) at (at-read2 .read2 .ensures rx)) refl (polled-read (at-start .args .awaited))
     (c .before .enum-told3 .given .1))
@@ -104,12 +108,9 @@ loop-again c =
     let at-c = at-timed-out .before .before in
     let at-read = at-c .before .before .before .before in
     let at-enum-told = at-read .before .before in
-    let at-poll-error = at-enum-told .before .before in
-    let at-if1 = at-poll-error .before in
-    let at-wait-over = at-if1 .before in
-    let at-loop = at-wait-over .before in (
+    let at-loop = at-enum-told .before .before .before .before .before in (
       (λ s h rx.
-          let late = rewritten (next-waits s _ _ h _ _ (sym (at-wait-over .wait-over .ensures) ∙ not-true _ (at-if1 .if1 .taken)) (sym (at-poll-error .poll-error .ensures) ∙ at-enum-told .enum-told .given .1)) (at-loop .loop .inv .0 s h rx) in
+          let late = rewritten (goes-late at-enum-told s h) (at-loop .loop .inv .0 s h rx) in
           let poll = read-step late (at-read .read .ensures rx) refl refl refl (at-c .c .given .1) (next-late s _ _ h _ _ (sym (at-timed-out .timed-out .ensures) ∙ at-if2 .if2 .left)) in
           poll-step poll (rw (at-polled-register .polled-register .ensures) at (at-read2 .read2 .ensures rx)) (c .before .d .given .1)),
       omega (arith, at-read .read .kept, at-read2 .read2 .kept),
