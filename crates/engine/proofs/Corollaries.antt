@@ -42,7 +42,7 @@ module _ {list : List ℕ} (r : RunOf list) where
             (c ∙ rw e, r .runs .received ∙ rw e, r .runs .recorded ∙ rw e);
         well = λ z. rw c (d .well (rw c at z));
         no-reading = λ z. rw c (d .no-reading (rw c at z) .all-used);
-        no-record = λ z. rw c (d .no-record (rw c at z));
+        no-record = λ z. rw c (d .no-record (rw c at z) .full);
       }
 
 module _ {l m : List ℕ} (r : RunOf l) (q : RunOf m) where

@@ -14,11 +14,11 @@ use Rattle.buslist.specs.Table.{settings-of}
 use Rattle.buslist.specs.Refusal.{refusal, causes, first-cause, Cause}
 use Rattle.buslist.specs.Meaning.{calls-of}
 use Rattle.registers.specs.declared.Entry.{Entry}
-use Rattle.registers.specs.Access.{Ending, is-read, cut, entries-in, record-of, received-of, reads, number}
+use Rattle.registers.specs.Access.{Access, Ending, is-read, cut, entries-in, words-in, record-of, received-of, reads, number}
 use Rattle.registers.specs.Machine.{Step, perform, no-room, exec, exec-on, exec-full, bring-up, Run, after-call, after-bring-up, whole-run, run as calls}
 use Rattle.engine.specs.Calls.{steps-of}
-use Rattle.engine.specs.Run.{result, filled}
-use Rattle.engine.specs.Demand1.{is-cause, answer, answered, LacksReading, Demand1}
+use Rattle.engine.specs.Run.{result, accepted-run, filled}
+use Rattle.engine.specs.Demand1.{is-cause, answer, answered, LacksReading, LacksRoom, Demand1}
 use Rattle.engine.proofs.Shape.{All, none, more}
 use Rattle.engine.proofs.Goes.{Goes, done, halted, full, lacks, wrote, took, error-number, shortage-number, whole-goes, goes-room}
 use Rattle.engine.proofs.Received.{received-fits}
@@ -72,16 +72,6 @@ goes-taken (lacks r a t) = taken-none _
 goes-taken (wrote r v a t g) = taken-write r v _ _ t (goes-taken g)
 goes-taken (took r w a t g) = taken-read r w _ _ t (goes-taken g)
 
--- steps that no entry is left for
-goes-full : {s : Setup} {p : List Step} {n : ℕ} {rs : List ℕ} {l : List Entry} {e : Ending} → Goes s p n rs l e → number e ≡ 10 → length l ≡ n
-unfolding number
-goes-full done z = absurd (omega arith)
-goes-full (halted e a) z = absurd (omega (arith, error-number e))
-goes-full (full a k) z = refl
-goes-full (lacks r a t) z = absurd (omega arith)
-goes-full (wrote r v a t g) z = ap suc (goes-full g z)
-goes-full (took r w a t g) z = ap suc (goes-full g z)
-
 -- what steps log is what the machine logs
 goes-log : {s : Setup} {p : List Step} {n : ℕ} {rs : List ℕ} {l : List Entry} {e : Ending} → Goes s p n rs l e → exec s n p rs .log ≡ l
 unfolding exec exec-on exec-full perform no-room
@@ -120,6 +110,33 @@ goes-lacks (lacks r a t) z = record { all-used = refl; fits = omega arith; code 
 goes-lacks (wrote r v a t g) z = let k = goes-lacks g z in lacks-more _ k (rw t (omega (arith, k .all-used))) (λ w. rw a)
 goes-lacks (took r v a t g) z = let k = goes-lacks g z in lacks-more _ k (rw t (omega (arith, k .all-used))) (λ w. rw a)
 
+-- a log lacks room with one more entry before it, and with the same longer logs
+room-more : {l : List Entry} {n : ℕ} {x : Ending} {f g : ℕ → List Entry} (e : Entry) → LacksRoom l n x f → ((w : ℕ) → g w ≡ e ∷ f w) → LacksRoom (e ∷ l) (suc n) x g
+room-more e k first =
+    record {
+      full = ap suc (k .full);
+      wanted = k .wanted;
+      named = k .named;
+      value = k .value;
+      next = λ w. let h = rw add-one at (k .next w) in rw (first w, add-one, h);
+    }
+
+room-same : {l : List Entry} {n : ℕ} {x : Ending} {f g : ℕ → List Entry} → LacksRoom l n x f → ((w : ℕ) → g w ≡ f w) → LacksRoom l n x g
+room-same k same = record { full = k .full; wanted = k .wanted; named = k .named; value = k .value; next = λ w. rw (same w) (k .next w) }
+
+-- steps that lack room
+goes-short : {s : Setup} {p : List Step} {n : ℕ} {rs : List ℕ} {l : List Entry} {e : Ending} → Goes s p n rs l e → number e ≡ 10
+    → LacksRoom l n e (λ w. exec s (suc n) p (rs ++ w ∷ []) .log)
+unfolding number exec exec-on perform
+goes-short done z = absurd (omega arith)
+goes-short (halted e a) z = absurd (omega (arith, error-number e))
+goes-short (full {rs = rs} (Access.write r v) k) z = record { full = refl; wanted = Access.write r v; named = refl; value = λ w. 0; next = λ w. rw k }
+goes-short (full {rs = []} (Access.read r) k) z = record { full = refl; wanted = Access.read r; named = refl; value = λ w. cut r w; next = λ w. rw k }
+goes-short (full {rs = x ∷ rs} (Access.read r) k) z = record { full = refl; wanted = Access.read r; named = refl; value = λ w. cut r x; next = λ w. rw k }
+goes-short (lacks r a t) z = absurd (omega arith)
+goes-short (wrote r v a t g) z = room-more _ (goes-short g z) (λ w. rw a)
+goes-short (took r v a t g) z = room-more _ (goes-short g z) (λ w. rw a)
+
 -- of n calls so many ended well, and these were begun
 pub record Counted (n : ℕ) (e : Ending) (k : ℕ) (parts : List (List Entry)) : Type 0 where
   pub low : k ≤ length parts
@@ -150,7 +167,7 @@ whole-counted s cs n rs = go (exec s n (bring-up s) rs .log) (exec s n (bring-up
 -- demand 1, of an accepted list and of a refused one
 module _ (list readings : List ℕ) (rx words : ℕ) where
   of-accepted : refusal list rx ≡ 0 → Demand1 list readings rx words
-  unfolding result
+  unfolding result accepted-run
   of-accepted ok =
       let s : Setup = setup-of (settings-of list) in
       let e = accepted-is list readings rx words ok refl in
@@ -165,7 +182,10 @@ module _ (list readings : List ℕ) (rx words : ℕ) where
         well = λ z. rw e (k .all (rw e at z) ∙ length-map (calls-of list) (steps-of s));
         no-reading = λ z. rw e (lacks-same (goes-lacks g (rw e at z)) (λ w.
             rw (accepted-is list (readings ++ w ∷ []) rx words ok refl) (sym (goes-log (whole-goes s (calls-of list) (entries-in words) (readings ++ w ∷ []))))));
-        no-record = λ z. rw e (goes-full g (rw e at z));
+        no-record = λ z. rw e (room-same (goes-short g (rw e at z)) (λ w.
+            let more : entries-in (words + words-in 1) ≡ suc (entries-in words) = omega arith in
+            rw (accepted-is list (readings ++ w ∷ []) rx (words + words-in 1) ok refl, more)
+            (sym (goes-log (whole-goes s (calls-of list) (suc (entries-in words)) (readings ++ w ∷ []))))));
         begun = rw e (k .low, k .high);
         taken = rw e (goes-taken g .answers);
         made = rw e (goes-room g);

@@ -8,9 +8,9 @@ use lib.Dec.{leb}
 use Rattle.buslist.specs.Refusal.{refusal}
 use Rattle.buslist.specs.Meaning.{calls-of}
 use Rattle.registers.specs.declared.Entry.{Entry}
-use Rattle.registers.specs.Access.{is-read, cut, entries-in, record-of, received-of, reads}
+use Rattle.registers.specs.Access.{is-read, cut, entries-in, words-in, record-of, received-of, reads, Access, read, write, no-record, Ending, cut-short}
 use Rattle.registers.specs.Machine.{flat}
-use Rattle.engine.specs.Run.{Result, run, filled}
+use Rattle.engine.specs.Run.{Result, accepted-run, run, filled}
 
 -- the numbers of document 01's table: 0 to 10, and the causes, 20 to 26
 abbrev pub is-cause : ℕ → Bool
@@ -39,6 +39,20 @@ pub record LacksReading (log : List Entry) (readings : List ℕ) (room : ℕ) (l
   pub of-read : is-read code ≡ true
   pub next : (reading : ℕ) → take (length log + 1) (longer reading) ≡ log ++ record { code = code; value = cut code reading } ∷ []
 
+-- the entry of an access: a read with this value, a write with its own
+abbrev pub entry-of : Access → ℕ → Entry
+entry-of (read r) v = record { code = r; value = v }
+entry-of (write r w) v = record { code = r; value = w }
+
+-- a log lacks room: no entry fits the rest of the record, and the ending names the next access
+-- `longer` is the log with room for one entry more, and a further reading: it goes on with that access
+pub record LacksRoom (log : List Entry) (room : ℕ) (ending : Ending) (longer : ℕ → List Entry) : Type 0 where
+  pub full : length log ≡ room
+  pub wanted : Access
+  pub named : ending ≡ cut-short (no-record wanted)
+  pub value : ℕ → ℕ
+  pub next : (reading : ℕ) → take (length log + 1) (longer reading) ≡ log ++ entry-of wanted (value reading) ∷ []
+
 -- the accesses of the run of a list on readings, with a received buffer of rx bytes and a record of so many words
 abbrev pub accesses : (list readings : List ℕ) (rx words : ℕ) → List Entry
 accesses list readings rx words = flat (run list readings rx words .log)
@@ -63,8 +77,9 @@ module _ (list readings : List ℕ) (rx words : ℕ) where
     pub well : ran .answer ≡ 0 → ran .calls ≡ length (calls-of list)
     -- 9: the next access is a read and every reading is used
     pub no-reading : ran .answer ≡ 9 → LacksReading log readings (entries-in words) (λ reading. accesses list (readings ++ reading ∷ []) rx words)
-    -- 10: no entry fits the rest of the record
-    pub no-record : ran .answer ≡ 10 → length log ≡ entries-in words
+    -- 10: no entry fits the rest of the record, for the next access
+    pub no-record : ran .answer ≡ 10
+        → LacksRoom log (entries-in words) (accepted-run list readings words .ending) (λ reading. accesses list (readings ++ reading ∷ []) rx (words + words-in 1))
     -- every call that ended well was begun, and at most one more
     pub begun : (ran .calls ≤ length (ran .log .begun)) × (length (ran .log .begun) ≤ ran .calls + 1)
     -- the readings used are the ones taken
