@@ -5,7 +5,7 @@ use native.Mathlib.Omega.{arith}
 use native.Mathlib.Numerals.{one-add}
 use native.Mathlib.Nat.{zero-add, sub-zero, suc-sub-suc}
 use mathlib.Core.Bool.{Bool, true, false, cond}
-use mathlib.Core.Path.{_≡_, refl, ap, _∙_}
+use mathlib.Core.Path.{_≡_, refl, _∙_}
 use mathlib.Core.List.{List, [], _∷_, _++_, map, flatten, append-nil, append-assoc}
 use lib.ListN.{length, drop}
 use Rattle.units.specs.declared.Setup.{Setup}
@@ -14,7 +14,7 @@ use Rattle.registers.specs.declared.Source.{Source}
 use Rattle.registers.specs.declared.BusError.{BusError}
 use Rattle.registers.specs.declared.Entry.{Entry}
 use Rattle.registers.specs.Access.{Access, Shortage, Ending, is-read, cut, reads, number}
-use Rattle.registers.specs.Machine.{Step, Act, access, next, perform, no-room, ended, exec, exec-on, exec-full, bring-up, Run, run, after-call, flat, after-bring-up, whole-run}
+use Rattle.registers.specs.Machine.{Step, Act, access, next, perform, no-room, exec, exec-on, exec-full, bring-up, Run, run, after-call, flat, after-bring-up, whole-run}
 use Rattle.engine.specs.Calls.{steps-of}
 use Rattle.engine.proofs.Plan.{Weights, total, total-append, after-access, bring-up-none, times, reads-together, steps-total}
 

@@ -7,7 +7,7 @@ use native.Mathlib.Nat.{add-zero, zero-add}
 use mathlib.Core.Bool.{Bool, true, false, cond}
 use mathlib.Core.Path.{_≡_, refl, sym, _∙_}
 use mathlib.Core.List.{List, [], _∷_, _++_, flatten, append-nil}
-use lib.ListN.{length, set, drop, length-set}
+use lib.ListN.{length, set, drop}
 use lib.Seq.{drop-drop, sets, sets-eq}
 use Rattle.units.specs.declared.Setup.{Setup}
 use Rattle.registers.specs.declared.Progress.{Progress}
@@ -15,6 +15,7 @@ use Rattle.registers.specs.declared.Entry.{Entry}
 use Rattle.registers.specs.Access.{Ending, number, is-read, is-data, low-byte, words-in, store, record-of, reads, received-of}
 use Rattle.registers.specs.Machine.{Step, exec, run, after-call, flat, after-bring-up, whole-run, bring-up}
 use Rattle.registers.specs.State.{State, at, recorded, received, replay, room, left, after, resume}
+use Rattle.registers.proofs.Laws.{room-recorded, room-received}
 use Rattle.engine.specs.Run.{filled}
 use Rattle.engine.specs.Whole.{Final, after-calls, calls-run}
 
@@ -23,13 +24,8 @@ unfolding replay
 replay-append [] b st = refl
 replay-append (e ∷ a) b st = replay-append a b (received e (recorded e st))
 
-length-store : (lg : List ℕ) (k : ℕ) (e : Entry) → length (store lg k e) ≡ length lg
-unfolding store
-length-store lg k e = simp length-set
-
 room-one : (e : Entry) (st : State) → room (received e (recorded e st)) ≡ room st - 1
-unfolding room recorded received
-room-one e (at rs lg rx b) = rw length-store (omega arith)
+room-one e st = room-received e (recorded e st) ∙ room-recorded e st
 
 room-replay : (es : List Entry) (st : State) → room (replay es st) ≡ room st - length es
 unfolding replay

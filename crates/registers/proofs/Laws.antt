@@ -21,7 +21,7 @@ pub length-store : (lg : List ℕ) (k : ℕ) (e : Entry) → length (store lg k 
 unfolding store
 length-store lg k e = simp length-set
 
-room-recorded : (e : Entry) (st : State) → room (recorded e st) ≡ room st - 1
+pub room-recorded : (e : Entry) (st : State) → room (recorded e st) ≡ room st - 1
 unfolding room recorded
 room-recorded e (at rs lg rx b) = rw length-store (omega arith)
 
@@ -34,7 +34,7 @@ unfolding left recorded
 left-write e (at rs lg rx b) t = rw t
 
 -- receiving a byte touches neither the record nor the readings
-room-received : (e : Entry) (st : State) → room (received e st) ≡ room st
+pub room-received : (e : Entry) (st : State) → room (received e st) ≡ room st
 unfolding room received
 room-received e (at rs lg rx b) = refl
 

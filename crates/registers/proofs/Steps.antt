@@ -17,7 +17,7 @@ use Rattle.registers.specs.declared.Cut.{Cut}
 use Rattle.registers.specs.declared.Taken.{Taken}
 use Rattle.registers.specs.declared.Outcome.{Outcome}
 use Rattle.registers.proofs.Outcome as O
-use Rattle.registers.specs.Access.{CYC, DR, is-read, is-data, cut, entries-in, Access}
+use Rattle.registers.specs.Access.{CYC, DR, is-read, is-data, cut, Access}
 use Rattle.registers.specs.Machine.{Step, Handler, handle, Act, access, next}
 use Rattle.registers.specs.State.{State, After, Took, at, word, then, taking, entry, recorded, received, room, left, resume, read-one, read}
 use Rattle.registers.specs.Contract.{outcome, taken, outcome-of, handled, ReadsFrom, WritesFrom, Refines, Reaches, WaitsFrom}

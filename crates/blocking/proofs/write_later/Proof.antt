@@ -1,7 +1,7 @@
 use Prim.Native.Nat.{ℕ, _+_, _-_, _<_, _≤_}
 use native.Mathlib.Omega.{arith}
 use mathlib.Core.Path.{_≡_, refl}
-use mathlib.Core.List.{List, [], _∷_}
+use mathlib.Core.List.{List}
 use lib.ListN.{length, drop}
 use Rattle.units.specs.declared.Setup.{Setup}
 use Rattle.registers.specs.State.{at}

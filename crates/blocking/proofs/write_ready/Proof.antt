@@ -1,4 +1,4 @@
-use Prim.Native.Nat.{ℕ, _+_, _-_, _*_, _<_, _≤_}
+use Prim.Native.Nat.{ℕ, _-_, _≤_}
 use native.Mathlib.Omega.{arith}
 use mathlib.Core.Path.{_≡_, refl, ap}
 use mathlib.Core.List.{List}
@@ -7,7 +7,6 @@ use Rattle.units.specs.declared.Setup.{Setup}
 use Rattle.registers.specs.declared.Progress.{Progress}
 use Rattle.registers.specs.State.{at, after-bytes}
 use Rattle.registers.specs.Contract.{Reaches}
-use Rattle.registers.proofs.Steps.{here}
 use Rattle.blocking.specs.Blocking.{later-bytes}
 use Rattle.blocking.proofs.Bytes.{byte-at-once, none-done, over-at-once}
 use borrow.Author.Tests.{not-false}

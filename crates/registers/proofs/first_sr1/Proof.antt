@@ -1,4 +1,3 @@
-use native.Mathlib.Omega.{arith}
 use Rattle.registers.specs.Access.{cut}
 use borrow.Author.Needs.{needs}
 use Rattle.registers.proofs.first_sr1.Statement.{statement}
