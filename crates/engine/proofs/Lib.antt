@@ -4,14 +4,4 @@ pub mod Goes
 pub mod Received
 pub mod Result
 pub mod CallLaws
-pub mod Demand1
-pub mod Shape
-pub mod Same
-pub mod Trace
-pub mod Apart
-pub mod Reduced
-pub mod Listed
-pub mod Demand3
-pub mod Corollaries
-pub mod Witness
 pub mod Pass

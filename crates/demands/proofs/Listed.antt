@@ -14,10 +14,10 @@ use Rattle.buslist.specs.Refusal.{any, empty-blocking, refusal}
 use Rattle.buslist.specs.Meaning.{write, read, Call, operation-of, calls-of}
 use Rattle.buslist.proofs.Walk.{one-direction, two-directions}
 use Rattle.buslist.proofs.Accept.{accepted, entry-fails, write-within, call-within, call-operations, call-kind, operation-write, operation-read}
 use Rattle.engine.specs.Calls.{Engine, polling, blocking, engine-of}
-use Rattle.engine.specs.Compare.{polls-empty-read}
-use Rattle.engine.proofs.Shape.{All, none, more, Fails, fails, Shaped, polling-write, polling-read, polling-write-read, transaction, blocking-write, blocking-read, blocking-write-read, FullIn, Sound}
-use Rattle.engine.proofs.Reduced.{OfKind}
+use Rattle.demands.specs.Compare.{polls-empty-read}
+use Rattle.demands.proofs.Shape.{All, none, more, Fails, fails, Shaped, polling-write, polling-read, polling-write-read, transaction, blocking-write, blocking-read, blocking-write-read, FullIn, Sound}
+use Rattle.demands.proofs.Reduced.{OfKind}
 
 -- a blocking write of some bytes, and a blocking read of a length
 write-shaped : (bs : List ℕ) → 0 < length bs → Shaped 4 (write bs ∷ [])

@@ -13,9 +13,9 @@ use Rattle.registers.specs.Machine.{Step, start}
 use Rattle.i2c.specs.declared.Previous.{Previous}
 use Rattle.i2c.specs.Polling.{address-byte, prepare-write, prepare-read, write-bytes, read-bytes, last-read, turn-write, turn-read, turn, transfer, direction, is-last, polling-steps}
 use Rattle.blocking.specs.Blocking.{send-start-and-wait, send-addr-and-wait, write-wait, later-bytes, write-bytes-and-wait, write-without-stop, close, read-wait, receive-bytes, read-one, read-two, read-arm, read-steps, close-after, blocking-steps}
-use Rattle.engine.specs.Compare.{ends-empty}
-use Rattle.engine.proofs.Shape.{Full}
-use Rattle.engine.proofs.Trace.{Both, ends, stops, first, apart, flip, prefix, skip, puts, modifies, modify-or-wait, check-or-flag, waits}
+use Rattle.demands.specs.Compare.{ends-empty}
+use Rattle.demands.proofs.Shape.{Full}
+use Rattle.demands.proofs.Trace.{Both, ends, stops, first, apart, flip, prefix, skip, puts, modifies, modify-or-wait, check-or-flag, waits}
 
 -- operations that each turn the direction, after this one before them
 abbrev pub Turns : Previous → List Operation → Type 0
@@ -67,9 +67,12 @@ module _ {s : Setup} {P : Type 0} {p q : List Step} (a : ℕ) where
         → Full (read m ∷ os) → Full (read n ∷ ps)
         → (_≡_ {A = List Operation} (read m ∷ os) (read n ∷ ps) → Both s P p q)
         → Both s P (opened a (read m) os p) (opened a (read n) ps q)
+    reads zero n [] ps t u f g k = absurd f
+    reads (suc m) zero [] [] t u f g k = absurd g
     reads (suc m) (suc n) [] [] t u f g k =
         simp append-assoc (same-reads m n refl refl (λ e. skip (skip (skip (skip (k (ap (λ x. read (suc x) ∷ []) e)))))))
     reads (suc m) n [] (write cs ∷ ps) t u f g k = simp append-assoc (same-reads m n refl refl (λ e. modify-or-wait))
+    reads m zero (write bs ∷ os) [] t u f g k = absurd g
     reads m (suc n) (write bs ∷ os) [] t u f g k = simp append-assoc (same-reads m n refl refl (λ e. flip modify-or-wait))
     reads m n (write bs ∷ os) (write cs ∷ ps) t u f g k =
         simp append-assoc (same-reads m n refl refl (λ e. prefix (prepare-write a) (writes bs cs os ps t u f g (λ es. k (ap₂ (λ x xs. read x ∷ xs) e es)))))

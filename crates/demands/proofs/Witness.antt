@@ -1,10 +1,12 @@
 -- What demand 3 supposes is met: unlike lists of bytes with equal reduced calls, and runs that end well.
+-- And it is needed: lists that break one supposition alone, of which the claim is false.
 -- Assumes nothing.
 use Prim.Native.Nat.{ℕ}
 use native.Mathlib.Omega.{arith}
-use mathlib.Core.Bool.{false}
+use mathlib.Core.Bool.{true, false}
 use mathlib.Core.Path.{_≡_, refl, ap}
 use mathlib.Core.List.{List, [], _∷_, _++_}
+use lib.ListN.{length}
 use Rattle.buslist.specs.Bytes.{byte}
 use Rattle.buslist.specs.Refusal.{any}
 use Rattle.buslist.specs.Meaning.{Operation, write, read, Call, calls-of}
@@ -13,10 +15,10 @@ use Rattle.registers.specs.Access.{record-of, received-of}
 use Rattle.registers.specs.Machine.{poll-word, start, poll-error, poll-ready, after-poll, flat}
 use Rattle.i2c.specs.Polling.{read-bytes}
 use Rattle.blocking.specs.Blocking.{later-bytes, write-bytes-and-wait, write-without-stop, read-steps, close-after, blocking-steps}
 use Rattle.engine.specs.Run.{run}
-use Rattle.engine.specs.Compare.{gather, joined, dropped, reduced-operations, reduced, idle, ends-empty, polls-empty-read, settings-words, Accepted, Comparable, Reduced, reduced-calls, SameRun}
-use Rattle.engine.specs.Examples.{settings, call-to, computed, ran}
-use Rattle.engine.proofs.Demand3.{demand-3}
+use Rattle.demands.specs.Compare.{gather, joined, dropped, reduced-operations, reduced, idle, ends-empty, polls-empty-read, settings-words, Accepted, Comparable, Reduced, reduced-calls, SameRun}
+use Rattle.demands.specs.Examples.{settings, call-to, computed, ran}
+use Rattle.demands.proofs.Demand3.{demand-3}
 
 -- the list of these calls: 36 MHz, sysclk 72 MHz, Standard 100,000, timeouts 1,000 µs, two tries
 abbrev list-of : List Call → List ℕ
@@ -60,6 +62,13 @@ empty-read = call-to 1 (read 0 ∷ [])
 
 abbrev empty-transaction : Call
 empty-transaction = call-to 3 (read 0 ∷ [])
+
+-- the two idle calls: a transaction without operations, and a blocking write_read with both halves empty
+abbrev no-operations : Call
+no-operations = call-to 3 []
+
+abbrev empty-halves : Call
+empty-halves = call-to 6 (write [] ∷ read 0 ∷ [])
 
 -- a list for both engines, and one with equal reduced calls
 abbrev both : List ℕ
@@ -108,6 +117,25 @@ pub record Unlike (l m : List ℕ) (rx : ℕ) (readings : List ℕ) : Type 0 whe
   pub ends : run l readings rx 100 .answer ≡ 0
   pub ends′ : run m readings rx 100 .answer ≡ 0
 
+-- two lists that would be compared if the first had no idle call: unlike reduced calls, and runs that end well with one record
+pub record NotTold (l m : List ℕ) (readings : List ℕ) : Type 0 where
+  pub settings : settings-words l ≡ settings-words m
+  pub idle-call : any idle (calls-of l) ≡ true
+  pub busy′ : any idle (calls-of m) ≡ false
+  pub accepted : Accepted l 0
+  pub accepted′ : Accepted m 0
+  pub ends : run l readings 0 100 .answer ≡ 0
+  pub ends′ : run m readings 0 100 .answer ≡ 0
+  pub one-record : record-of (flat (run l readings 0 100 .log)) ≡ record-of (flat (run m readings 0 100 .log))
+  pub unlike-calls : reduced-calls l ≡ reduced-calls m → ⊥
+
+-- two lists that `same-run` would be about if no call of theirs were the exception: equal reduced calls, and runs that differ
+pub record NotSame (l m : List ℕ) (readings : List ℕ) : Type 0 where
+  pub alike : Alike l m 0
+  pub exception : any polls-empty-read (calls-of l) ≡ true
+  pub exception′ : any polls-empty-read (calls-of m) ≡ true
+  pub unlike-runs : SameRun (run l readings 0 100) (run m readings 0 100) → ⊥
+
 pub record Witness : Type 0 where
   -- one pair for each engine
   pub polling-pair : Alike (alone two-writes) (alone one-write) 0
@@ -124,9 +152,11 @@ pub record Witness : Type 0 where
   -- one pair for each engine that its records tell apart
   pub polling-unlike : Unlike (alone one-write) (alone other-write) 0 (0 ∷ polled)
   pub blocking-unlike : Unlike (alone blocking-one) (alone blocking-other) 0 (0 ∷ timed)
-  -- the exception: equal reduced calls, and the runs differ
-  pub exception-pair : Alike (alone empty-read) (alone empty-transaction) 0
-  pub unlike-runs : SameRun (run (alone empty-read) (0 ∷ polled) 0 100) (run (alone empty-transaction) (0 ∷ polled) 0 100) → ⊥
+  -- why no call may be idle: for each idle call, a list with it and one without
+  pub idle-transaction : NotTold (list-of (one-write ∷ no-operations ∷ [])) (alone one-write) (0 ∷ polled)
+  pub idle-write-read : NotTold (list-of (one-write ∷ empty-halves ∷ [])) (alone one-write) (0 ∷ polled)
+  -- why no polling call may end in an empty read
+  pub empty-last-read : NotSame (alone empty-read) (alone empty-transaction) (0 ∷ polled)
 
 -- lists whose first calls are of other kinds are unlike
 alike : {l m : List ℕ} {rx : ℕ} → (byte l 64 ≡ byte m 64 → ⊥) → settings-words l ≡ settings-words m → any idle (calls-of l) ≡ false → any idle (calls-of m) ≡ false
@@ -164,6 +194,23 @@ unlike bytes same busy busy′ accepted accepted′ ends ends′ =
       ends′ = ends′;
     }
 
+-- a list of two calls and a list of one
+not-told : {l m : List ℕ} {readings : List ℕ} → (length (reduced-calls l) ≡ length (reduced-calls m) → ⊥) → settings-words l ≡ settings-words m
+    → any idle (calls-of l) ≡ true → any idle (calls-of m) ≡ false → Accepted l 0 → Accepted m 0 → run l readings 0 100 .answer ≡ 0 → run m readings 0 100 .answer ≡ 0
+    → record-of (flat (run l readings 0 100 .log)) ≡ record-of (flat (run m readings 0 100 .log)) → NotTold l m readings
+not-told lengths same idle-call busy′ accepted accepted′ ends ends′ one-record =
+    record {
+      settings = same;
+      idle-call = idle-call;
+      busy′ = busy′;
+      accepted = accepted;
+      accepted′ = accepted′;
+      ends = ends;
+      ends′ = ends′;
+      one-record = one-record;
+      unlike-calls = λ e. lengths (ap length e);
+    }
+
 pub witness : Witness
 unfolding performed
 witness =
@@ -179,8 +226,15 @@ witness =
       both-ends = record { full = refl; full′ = refl; ends = refl; ends′ = refl };
       polling-unlike = unlike (omega arith) refl refl refl refl refl refl refl;
       blocking-unlike = unlike (omega arith) refl refl refl refl refl refl refl;
-      exception-pair = alike (omega arith) refl refl refl refl refl refl;
-      unlike-runs = λ r. let n = ap (λ c. c .made) (r .counts) in omega arith;
+      idle-transaction = not-told (omega arith) refl refl refl refl refl refl refl refl;
+      idle-write-read = not-told (omega arith) refl refl refl refl refl refl refl refl;
+      empty-last-read =
+          record {
+            alike = alike (omega arith) refl refl refl refl refl refl;
+            exception = refl;
+            exception′ = refl;
+            unlike-runs = λ r. let n = ap (λ c. c .made) (r .counts) in omega arith;
+          };
     }
 
 -- so the runs of each pair are one

@@ -7,10 +7,10 @@ use lib.ListN.{length, take, getD}
 use Rattle.buslist.specs.Refusal.{refusal, any}
 use Rattle.buslist.specs.Meaning.{calls-of}
 use Rattle.registers.specs.Access.{entries-in, words-in}
 use Rattle.engine.specs.declared.Counts.{Counts}
 use Rattle.engine.specs.Run.{RunsTo}
-use Rattle.engine.specs.Demand1.{known}
-use Rattle.engine.specs.Compare.{polls-empty-read, Accepted, Comparable, reduced-calls}
+use Rattle.demands.specs.Demand1.{known}
+use Rattle.demands.specs.Compare.{polls-empty-read, Accepted, Comparable, reduced-calls}
 
 -- a run of a list by the code: the readings, what the received buffer and the record held before and hold after, and the counts
 pub record RunOf (list : List ℕ) : Type 0 where

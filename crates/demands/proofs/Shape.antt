@@ -7,8 +7,8 @@ use mathlib.Core.Bool.{Bool, true, false}
 use mathlib.Core.Path.{_≡_}
 use mathlib.Core.List.{List, [], _∷_}
 use Rattle.buslist.specs.Meaning.{Operation, write, read, Call}
 use Rattle.engine.specs.Calls.{Engine, polling, blocking, engine-of}
-use Rattle.engine.specs.Compare.{ends-empty}
+use Rattle.demands.specs.Compare.{ends-empty}
 
 -- each of a list
 pub data All {A : Type 0} (P : A → Type 0) : List A → Type 0 where
@@ -50,6 +50,7 @@ pub record Sound (c : Call) : Type 0 where
 -- a longer read is no empty one
 pub longer : (m n : ℕ) (os : List Operation) → Full (read n ∷ os) → Full (read (m + n) ∷ os)
 unfolding ends-empty
+longer m zero [] h = absurd h
 longer m (suc n) [] h = rw add-suc tt
 longer m zero (o ∷ os) h = h
 longer m (suc n) (o ∷ os) h = h

@@ -9,12 +9,12 @@ use Rattle.buslist.specs.Table.{settings-of}
 use Rattle.buslist.specs.Meaning.{calls-of}
 use Rattle.registers.specs.declared.Entry.{Entry}
 use Rattle.registers.specs.Access.{entries-in, record-of}
 use Rattle.engine.specs.Run.{result}
-use Rattle.engine.specs.Compare.{idle, polls-empty-read, settings-words, Demand3}
+use Rattle.demands.specs.Compare.{idle, polls-empty-read, settings-words, Demand3}
 use Rattle.engine.proofs.Result.{accepted-is}
-use Rattle.engine.proofs.Same.{same-steps}
-use Rattle.engine.proofs.Reduced.{told-apart}
-use Rattle.engine.proofs.Listed.{of-kind, each-fails, sound}
+use Rattle.demands.proofs.Same.{same-steps}
+use Rattle.demands.proofs.Reduced.{told-apart}
+use Rattle.demands.proofs.Listed.{of-kind, each-fails, sound}
 
 -- a record is of one log
 record-injective : (l k : List Entry) → record-of l ≡ record-of k → l ≡ k

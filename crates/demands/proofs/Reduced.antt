@@ -11,13 +11,13 @@ use Rattle.registers.specs.Access.{CR1, number}
 use Rattle.registers.specs.Machine.{Step, bring-up, flat, whole-run}
 use Rattle.i2c.specs.declared.Previous.{Previous}
 use Rattle.i2c.specs.Polling.{last-read, turn-write, turn-read, turn, transfer, operation-steps, direction, polling-steps}
 use Rattle.engine.specs.Calls.{Engine, polling, blocking, engine-of, early, operations-steps, steps-of}
-use Rattle.engine.specs.Compare.{Reduced, gather, joined, dropped, reduced-operations, reduced, idle, ends-empty}
-use Rattle.engine.proofs.Shape.{All, none, more, Fails, Shaped, polling-write, polling-read, polling-write-read, transaction, blocking-write, blocking-read, blocking-write-read, Full, FullIn, Sound, longer, rewritten}
-use Rattle.engine.proofs.Same.{reduced-steps, reduces-all}
-use Rattle.engine.proofs.Trace.{goes-trace, Both, first, make, weaken, pair, apart, flip, prefix, failing}
-use Rattle.engine.proofs.Apart.{Turns, PollingForm, same-polling, Tail, Halves, opens-half, not-none, not-control, same-blocking}
+use Rattle.demands.specs.Compare.{Reduced, gather, joined, dropped, reduced-operations, reduced, idle, ends-empty}
+use Rattle.demands.proofs.Shape.{All, none, more, Fails, Shaped, polling-write, polling-read, polling-write-read, transaction, blocking-write, blocking-read, blocking-write-read, Full, FullIn, Sound, longer, rewritten}
+use Rattle.demands.proofs.Same.{reduced-steps, reduces-all}
+use Rattle.demands.proofs.Trace.{goes-trace, Both, first, make, weaken, pair, apart, flip, prefix, failing}
+use Rattle.demands.proofs.Apart.{Turns, PollingForm, same-polling, Tail, Halves, opens-half, not-none, not-control, same-blocking}
 use Rattle.engine.proofs.Goes.{whole-goes}
 
 -- what the operations of a reduced call are
 abbrev Form : Engine → List Operation → Type 0
@@ -131,9 +131,11 @@ unfolding engine-of reduced-operations joined dropped idle
 formed-by a (polling-write {bs}) f b = gather-form (write bs) [] f
 formed-by a (polling-read {n}) f b = gather-form (read n) [] f
 formed-by a (polling-write-read {bs} {n}) f b = gather-form (write bs) (read n ∷ []) f
+formed-by a (transaction {os = []}) f b = absurd b
 formed-by a (transaction {os = o ∷ os}) f b = gather-form o os f
 formed-by a blocking-write f b = Halves.write-first Tail.alone
 formed-by a blocking-read f b = Halves.read-alone
+formed-by a (blocking-write-read {bs = []} {n = zero}) f b = absurd b
 formed-by a (blocking-write-read {bs = []} {n = suc n}) f b = Halves.read-alone
 formed-by a (blocking-write-read {bs = c ∷ cs} {n = zero}) f b = Halves.write-first Tail.alone
 formed-by a (blocking-write-read {bs = c ∷ cs} {n = suc n}) f b = Halves.write-first Tail.read-after

@@ -16,13 +16,13 @@ use Rattle.buslist.specs.Meaning.{calls-of}
 use Rattle.registers.specs.declared.Entry.{Entry}
 use Rattle.registers.specs.Access.{Access, Ending, is-read, cut, entries-in, words-in, record-of, received-of, reads, number}
 use Rattle.registers.specs.Machine.{Step, perform, no-room, exec, exec-on, exec-full, bring-up, Run, after-call, after-bring-up, whole-run, run as calls}
 use Rattle.engine.specs.Calls.{steps-of}
 use Rattle.engine.specs.Run.{result, accepted-run, filled}
-use Rattle.engine.specs.Demand1.{is-cause, answer, answered, LacksReading, LacksRoom, Demand1}
-use Rattle.engine.proofs.Shape.{All, none, more}
+use Rattle.demands.specs.Demand1.{is-cause, answer, answered, LacksReading, LacksRoom, Demand1}
+use Rattle.demands.proofs.Shape.{All, none, more}
 use Rattle.engine.proofs.Goes.{Goes, done, halted, full, lacks, wrote, took, error-number, shortage-number, whole-goes, goes-room}
 use Rattle.engine.proofs.Received.{received-fits}
 use Rattle.engine.proofs.Result.{run-of-calls, accepted-is, refused-is}
 
 -- a run's number is at most 10
 number-small : (e : Ending) → number e ≤ 10

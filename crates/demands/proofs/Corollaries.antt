@@ -7,13 +7,13 @@ use lib.ListN.{length}
 use lib.Seq.{take-at, take-append-seam}
 use Rattle.registers.specs.Access.{record-of, received-of, reads}
 use Rattle.registers.specs.Machine.{flat}
 use Rattle.engine.specs.Run.{Result, run, counts-of, filled, HostRunsTo}
-use Rattle.engine.specs.Compare.{SameRun}
-use Rattle.engine.specs.Corollaries.{RunOf, counts-in, words-made, bytes-got, Results1, Results3}
+use Rattle.demands.specs.Compare.{SameRun}
+use Rattle.demands.specs.Corollaries.{RunOf, counts-in, words-made, bytes-got, Results1, Results3}
 use Rattle.engine.proofs.RunLaws.{record-length}
 use Rattle.engine.proofs.Result.{refused-is}
-use Rattle.engine.proofs.Demand1.{demand-1}
-use Rattle.engine.proofs.Demand3.{demand-3}
+use Rattle.demands.proofs.Demand1.{demand-1}
+use Rattle.demands.proofs.Demand3.{demand-3}
 
 -- the meaning of a run by the code
 abbrev meant : {list : List ℕ} → RunOf list → Result

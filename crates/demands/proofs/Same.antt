@@ -11,9 +11,9 @@ use Rattle.registers.specs.Machine.{Step}
 use Rattle.i2c.specs.declared.Previous.{Previous}
 use Rattle.i2c.specs.Polling.{write-bytes, read-bytes, last-read, turn-write, turn-read, turn, transfer, is-last, polling-steps}
 use Rattle.blocking.specs.Blocking.{write-without-stop, read-steps, blocking-steps}
 use Rattle.engine.specs.Calls.{engine-of, early, operations-steps, steps-of}
-use Rattle.engine.specs.Compare.{Reduced, gather, joined, dropped, reduced-operations, reduced, ends-empty}
-use Rattle.engine.proofs.Shape.{All, none, more, Shaped, polling-write, polling-read, polling-write-read, transaction, blocking-write, blocking-read, blocking-write-read, Full, FullIn, Sound, longer, rewritten}
+use Rattle.demands.specs.Compare.{Reduced, gather, joined, dropped, reduced-operations, reduced, ends-empty}
+use Rattle.demands.proofs.Shape.{All, none, more, Shaped, polling-write, polling-read, polling-write-read, transaction, blocking-write, blocking-read, blocking-write-read, Full, FullIn, Sound, longer, rewritten}
 
 -- bytes in two parts
 write-append : (bs cs : List ℕ) → write-bytes (bs ++ cs) ≡ write-bytes bs ++ write-bytes cs
@@ -34,6 +34,7 @@ join-write false bs cs = simp write-append
 
 join-read : (m n : ℕ) (os : List Operation) → Full (read n ∷ os) → read-bytes m ++ transfer (is-last os) (read n) ≡ transfer (is-last os) (read (m + n))
 unfolding transfer ends-empty last-read
+join-read m zero [] h = absurd h
 join-read m (suc n) [] h = rw add-suc (simp (last-read, read-append, append-assoc))
 join-read m zero (o ∷ os) h = simp read-append
 join-read m (suc n) (o ∷ os) h = simp read-append

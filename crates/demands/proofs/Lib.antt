@@ -1,0 +1,10 @@
+pub mod Demand1
+pub mod Shape
+pub mod Same
+pub mod Trace
+pub mod Apart
+pub mod Reduced
+pub mod Listed
+pub mod Demand3
+pub mod Corollaries
+pub mod Witness

@@ -1,0 +1,4 @@
+pub mod Demand1
+pub mod Compare
+pub mod Corollaries
+pub mod Examples
