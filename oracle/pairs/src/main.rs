@@ -9,6 +9,7 @@
 mod near;
 mod reduce;
 mod rewrite;
+mod tally;
 
 use std::process::ExitCode;
 
@@ -16,7 +17,8 @@ use buslist::{List, Plan, PlannedOperation};
 use cases::{accepted, judge, plan, simulated, write_case, Case, Ran, Rng, Style};
 use device::ENTRY_WORDS;
 
-use reduce::{idle, reduced};
+use reduce::{idle, is_blocking, reduced};
+use tally::{Likes, Nears};
 
 fn main() -> ExitCode {
     let mut numbers = std::env::args().skip(1).map(|word| {
@@ -37,14 +39,13 @@ fn comparable(rng: &mut Rng) -> Plan {
     let mut plan = plan(rng);
     plan.calls.retain(|call| {
         let empty_end = matches!(call.operations.last(), Some(PlannedOperation::Read(0)));
-        !idle(call) && (call.kind > 3 || !empty_end)
+        !idle(call) && (is_blocking(call) || !empty_end)
     });
     plan
 }
 
 fn like_pairs(pairs: u64, seed: u64) -> bool {
-    let mut unlike = 0;
-    let mut answers = [0u64; 11];
+    let mut likes = Likes::default();
     for number in 0..pairs {
         let rng = &mut Rng::of(seed, number);
         let one = comparable(rng);
@@ -59,69 +60,75 @@ fn like_pairs(pairs: u64, seed: u64) -> bool {
             list: other.bytes(),
             ..first.clone()
         };
-        unlike += u64::from(first.list != second.list);
         let ran = judge(&first);
         if ran != judge(&second) {
             println!("pair {number} of seed {seed}: equal reduced calls, unlike runs");
             return keep(&first, &second);
         }
-        answers[ran.answer() as usize] += 1;
+        likes.count(&one, &other, ran.answer());
     }
-    println!("like pairs: {pairs}, of these unlike lists {unlike}, unlike runs 0");
-    println!("  by answer, 0 to 10: {answers:?}");
-    let enough = 3 * unlike >= pairs;
-    if !enough {
-        println!("fewer than a third are unlike lists");
-    }
-    enough
+    println!("{likes}");
+    enough(&likes.shortfalls())
 }
 
 fn near_misses(pairs: u64, seed: u64) -> bool {
-    let mut found = 0;
-    let (mut both_well, mut as_long) = (0u64, 0u64);
-    let mut by_miss = vec![0u64; near::MISSES.len()];
-    for number in 0.. {
-        if found == pairs {
-            break;
+    let mut nears = Nears::default();
+    let found = (0..).filter_map(|number| Some((number, near_miss(seed, number)?)));
+    for (number, near) in found.take(pairs as usize) {
+        let again = judge(&near.second);
+        if again.answer() == 0 && made(&again) == made(&near.ran) {
+            println!("near miss {number} of seed {seed}: unlike reduced calls, equal records");
+            return keep(&near.first, &near.second);
         }
-        let rng = &mut Rng::of(!seed, number);
-        let one = comparable(rng);
-        let miss = rng.below(near::MISSES.len());
-        let Some(other) = near::miss(rng, &one, miss) else {
-            continue;
-        };
-        if other.calls.iter().any(idle) || reduced(&one) == reduced(&other) {
-            continue;
-        }
-        let Some((first, ran)) = ending_well(rng, &one) else {
-            continue;
-        };
-        let second = Case {
-            list: other.bytes(),
-            rx: other.read_together(),
-            ..first.clone()
-        };
-        let again = judge(&second);
-        found += 1;
-        by_miss[miss] += 1;
-        if again.answer() == 0 {
-            both_well += 1;
-            if again.counts[3] == ran.counts[3] {
-                as_long += 1;
-                if made(&again) == made(&ran) {
-                    println!(
-                        "near miss {number} of seed {seed}: unlike reduced calls, equal records"
-                    );
-                    return keep(&first, &second);
-                }
-            }
-        }
+        nears.count(near.miss, near.blocking, &near.ran, &again);
     }
-    println!("near misses: {pairs}, of these both answer 0 {both_well}, with records as long {as_long}, equal 0");
-    for (name, count) in near::MISSES.iter().zip(by_miss) {
-        println!("  {name}: {count}");
+    println!("{nears}");
+    enough(&nears.shortfalls())
+}
+
+struct NearMiss {
+    /// What differs, and the engine of the call where it does.
+    miss: usize,
+    blocking: bool,
+    first: Case,
+    /// The first's run, which answers 0.
+    ran: Ran,
+    /// The other list, on the readings of the first.
+    second: Case,
+}
+
+/// The near miss of this number under this seed, where it comes to one.
+fn near_miss(seed: u64, number: u64) -> Option<NearMiss> {
+    let rng = &mut Rng::of(!seed, number);
+    let one = comparable(rng);
+    let miss = rng.below(near::MISSES.len());
+    let place = rng.below(one.calls.len());
+    let blocking = is_blocking(one.calls.get(place)?);
+    let other = near::miss(rng, &one, miss, place)?;
+    if other.calls.iter().any(idle) || reduced(&one) == reduced(&other) {
+        return None;
     }
-    true
+    let (first, ran) = ending_well(rng, &one)?;
+    let second = Case {
+        list: other.bytes(),
+        rx: other.read_together(),
+        ..first.clone()
+    };
+    Some(NearMiss {
+        miss,
+        blocking,
+        first,
+        ran,
+        second,
+    })
+}
+
+/// Says what there was too little of.
+fn enough(shortfalls: &[String]) -> bool {
+    for line in shortfalls {
+        println!("too few: {line}");
+    }
+    shortfalls.is_empty()
 }
 
 /// A case of a plan that answers 0, with just the readings that it uses.

@@ -3,77 +3,111 @@
 use buslist::{Plan, PlannedCall, PlannedOperation};
 use cases::Rng;
 
+use crate::reduce::{full, is_blocking, joined};
+
+/// Changes one thing in the call at this place, where it has a place for it.
+type Change = fn(&mut Rng, &mut Plan, usize) -> Option<()>;
+
 /// The things that can differ.
-pub const MISSES: [&str; 8] = [
-    "another address",
-    "another byte",
-    "a byte more or less",
-    "a read longer or shorter by one",
-    "a call in two",
-    "two calls in one",
-    "the other engine",
-    "two calls exchanged",
+pub const MISSES: [(&str, Change); 8] = [
+    ("another address", alter_address),
+    ("another byte", alter_byte),
+    ("a byte more or less", alter_write),
+    ("a read longer or shorter by one", alter_read),
+    ("a call in two", cut),
+    ("two calls in one", join),
+    ("the other engine", change_engine),
+    ("two calls exchanged", exchange),
 ];
 
-/// The plan with that thing changed, where it has a place for it.
-pub fn miss(rng: &mut Rng, plan: &Plan, miss: usize) -> Option<Plan> {
+/// The plan with that thing changed in the call at this place, where the list is still accepted.
+pub fn miss(rng: &mut Rng, plan: &Plan, miss: usize, place: usize) -> Option<Plan> {
     let mut other = plan.clone();
-    let calls = &mut other.calls;
-    if calls.is_empty() {
+    let (_, change) = MISSES[miss];
+    change(rng, &mut other, place)?;
+    (buslist::refusal(&other.bytes(), other.read_together()) == 0).then_some(other)
+}
+
+fn alter_address(rng: &mut Rng, plan: &mut Plan, place: usize) -> Option<()> {
+    plan.calls[place].address ^= 1 << rng.below(7);
+    Some(())
+}
+
+fn alter_byte(rng: &mut Rng, plan: &mut Plan, place: usize) -> Option<()> {
+    let bytes = any_write(rng, &mut plan.calls[place])?;
+    let at = rng.below(bytes.len().max(1));
+    *bytes.get_mut(at)? ^= 1 << rng.below(8);
+    Some(())
+}
+
+fn alter_write(rng: &mut Rng, plan: &mut Plan, place: usize) -> Option<()> {
+    let bytes = any_write(rng, &mut plan.calls[place])?;
+    if rng.percent(50) {
+        bytes.push(rng.draw() as u8);
+    } else {
+        bytes.pop();
+    }
+    Some(())
+}
+
+fn alter_read(rng: &mut Rng, plan: &mut Plan, place: usize) -> Option<()> {
+    let length = any_read(rng, &mut plan.calls[place])?;
+    *length = if rng.percent(50) {
+        *length + 1
+    } else {
+        length.saturating_sub(1)
+    };
+    Some(())
+}
+
+/// One call as two of its engine, with its operations parted between two of them or inside one.
+fn cut(rng: &mut Rng, plan: &mut Plan, place: usize) -> Option<()> {
+    let call = &plan.calls[place];
+    let at = rng.below(call.operations.len());
+    let mut first = call.operations[..at].to_vec();
+    let mut second = call.operations[at..].to_vec();
+    let parted = second.first_mut()?;
+    let bytes = rng.below(parted.len().max(1));
+    if bytes > 0 {
+        first.push(take(parted, bytes));
+    }
+    let parts = [with(call, first)?, with(call, second)?];
+    plan.calls.splice(place..=place, parts);
+    Some(())
+}
+
+/// Two neighbours of one engine as one call, to the address of the first.
+fn join(_: &mut Rng, plan: &mut Plan, place: usize) -> Option<()> {
+    let (call, next) = (&plan.calls[place], plan.calls.get(place + 1)?);
+    if is_blocking(call) != is_blocking(next) {
         return None;
     }
-    let k = rng.below(calls.len());
-    match miss {
-        0 => calls[k].address ^= 1 << rng.below(7),
-        1 => *any_byte(rng, &mut calls[k])? ^= 1 << rng.below(8),
-        2 => {
-            let bytes = any_write(rng, &mut calls[k])?;
-            if rng.percent(50) {
-                bytes.push(rng.draw() as u8);
-            } else {
-                bytes.pop();
-            }
-        }
-        3 => {
-            let length = any_read(rng, &mut calls[k])?;
-            *length = if rng.percent(50) {
-                *length + 1
-            } else {
-                length.saturating_sub(1)
-            };
-        }
-        4 => {
-            let (first, second) = parts(rng, &calls[k])?;
-            calls.splice(k..=k, [first, second]);
-        }
-        5 => {
-            let second = calls.get(k + 1)?.clone();
-            if calls[k].kind > 3 || second.kind > 3 {
-                return None;
-            }
-            calls[k].kind = 3;
-            calls[k].operations.extend(second.operations);
-            calls.remove(k + 1);
-        }
-        6 => {
-            calls[k].kind = match calls[k].kind {
-                0 => 4,
-                1 => 5,
-                2 => 6,
-                4 => 0,
-                5 => 1,
-                6 => 2,
-                _ => return None,
-            }
-        }
-        _ => {
-            if k + 1 == calls.len() {
-                return None;
-            }
-            calls.swap(k, k + 1);
-        }
+    let mut operations = [&call.operations[..], &next.operations].concat();
+    if is_blocking(call) {
+        // A blocking call has room for one write and one read.
+        operations = joined(&full(&operations));
     }
-    (buslist::refusal(&other.bytes(), other.read_together()) == 0).then_some(other)
+    plan.calls[place] = with(call, operations)?;
+    plan.calls.remove(place + 1);
+    Some(())
+}
+
+fn change_engine(_: &mut Rng, plan: &mut Plan, place: usize) -> Option<()> {
+    let kind = &mut plan.calls[place].kind;
+    *kind = match kind {
+        0 => 4,
+        1 => 5,
+        2 => 6,
+        4 => 0,
+        5 => 1,
+        6 => 2,
+        _ => return None,
+    };
+    Some(())
+}
+
+fn exchange(_: &mut Rng, plan: &mut Plan, place: usize) -> Option<()> {
+    (place + 1 < plan.calls.len()).then(|| plan.calls.swap(place, place + 1))
 }
 
 fn any_write<'a>(rng: &mut Rng, call: &'a mut PlannedCall) -> Option<&'a mut Vec<u8>> {
@@ -88,12 +122,6 @@ fn any_write<'a>(rng: &mut Rng, call: &'a mut PlannedCall) -> Option<&'a mut Vec
     (!writes.is_empty()).then(|| writes.swap_remove(rng.below(writes.len())))
 }
 
-fn any_byte<'a>(rng: &mut Rng, call: &'a mut PlannedCall) -> Option<&'a mut u8> {
-    let bytes = any_write(rng, call)?;
-    let at = rng.below(bytes.len().max(1));
-    bytes.get_mut(at)
-}
-
 fn any_read<'a>(rng: &mut Rng, call: &'a mut PlannedCall) -> Option<&'a mut usize> {
     let mut reads: Vec<_> = call
         .operations
@@ -106,17 +134,79 @@ fn any_read<'a>(rng: &mut Rng, call: &'a mut PlannedCall) -> Option<&'a mut usiz
     (!reads.is_empty()).then(|| reads.swap_remove(rng.below(reads.len())))
 }
 
-/// A polling call as two transactions, each with some of its operations.
-fn parts(rng: &mut Rng, call: &PlannedCall) -> Option<(PlannedCall, PlannedCall)> {
-    if call.kind > 3 || call.operations.len() < 2 {
-        return None;
+/// The first bytes of an operation, taken off it.
+fn take(operation: &mut PlannedOperation, bytes: usize) -> PlannedOperation {
+    match operation {
+        PlannedOperation::Write(all) => PlannedOperation::Write(all.drain(..bytes).collect()),
+        PlannedOperation::Read(length) => {
+            *length -= bytes;
+            PlannedOperation::Read(bytes)
+        }
     }
-    let at = rng.range(1, call.operations.len() - 1);
-    let part = |operations: &[PlannedOperation]| PlannedCall {
-        kind: 3,
-        operations: operations.to_vec(),
-        ..call.clone()
+}
+
+/// The call with these operations in place of its own, where its engine has a kind for them.
+fn with(call: &PlannedCall, operations: Vec<PlannedOperation>) -> Option<PlannedCall> {
+    use PlannedOperation::{Read, Write};
+    let kind = match (is_blocking(call), &operations[..]) {
+        (_, []) => return None,
+        (false, _) => 3,
+        (true, [Write(_)]) => 4,
+        (true, [Read(_)]) => 5,
+        (true, [Write(_), Read(_)]) => 6,
+        (true, _) => return None,
     };
-    let (first, second) = call.operations.split_at(at);
-    Some((part(first), part(second)))
+    Some(PlannedCall {
+        kind,
+        operations,
+        ..call.clone()
+    })
+}
+
+#[cfg(test)]
+mod tests {
+    use std::collections::BTreeSet;
+
+    use super::*;
+    use crate::comparable;
+    use crate::reduce::reduced;
+
+    /// The kinds of the calls that a change met, and of those that it made of them.
+    type Kinds = BTreeSet<(Vec<u8>, Vec<u8>)>;
+
+    fn kinds(plan: &Plan, place: usize, calls: usize) -> Vec<u8> {
+        let calls = &plan.calls[place..place + calls];
+        calls.iter().map(|call| call.kind).collect()
+    }
+
+    #[test]
+    fn a_call_in_two_joined_again_is_the_call() {
+        let (mut cuts, mut joins) = (Kinds::new(), Kinds::new());
+        for case in 0..5_000 {
+            let rng = &mut Rng::of(3, case);
+            let plan = comparable(rng);
+            let place = rng.below(plan.calls.len());
+            let mut other = plan.clone();
+            if place == plan.calls.len() || cut(rng, &mut other, place).is_none() {
+                continue;
+            }
+            assert_ne!(reduced(&plan), reduced(&other), "case {case}");
+            let parts = kinds(&other, place, 2);
+            cuts.insert((kinds(&plan, place, 1), parts.clone()));
+            join(rng, &mut other, place).expect("parts of one call");
+            assert_eq!(reduced(&plan), reduced(&other), "case {case}");
+            joins.insert((parts, kinds(&other, place, 1)));
+        }
+        let forms = [
+            (4, [4, 4]),
+            (5, [5, 5]),
+            (6, [4, 5]),
+            (6, [4, 6]),
+            (6, [6, 5]),
+        ];
+        for (kind, parts) in forms {
+            assert!(cuts.contains(&(vec![kind], parts.to_vec())), "{parts:?}");
+            assert!(joins.contains(&(parts.to_vec(), vec![kind])), "{parts:?}");
+        }
+    }
 }

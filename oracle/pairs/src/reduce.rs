@@ -23,14 +23,14 @@ pub fn idle(call: &PlannedCall) -> bool {
     }
 }
 
+pub fn is_blocking(call: &PlannedCall) -> bool {
+    call.kind > 3
+}
+
 fn reduce(call: &PlannedCall) -> Reduced {
-    let blocking = call.kind > 3;
+    let blocking = is_blocking(call);
     let operations = if blocking {
-        let full = call
-            .operations
-            .iter()
-            .filter(|operation| !operation.is_empty());
-        full.cloned().collect()
+        full(&call.operations)
     } else {
         joined(&call.operations)
     };
@@ -41,8 +41,14 @@ fn reduce(call: &PlannedCall) -> Reduced {
     }
 }
 
+/// Empty operations dropped.
+pub fn full(operations: &[PlannedOperation]) -> Vec<PlannedOperation> {
+    let full = operations.iter().filter(|operation| !operation.is_empty());
+    full.cloned().collect()
+}
+
 /// Neighbours of one direction joined: the bytes of writes in order, the lengths of reads summed.
-fn joined(operations: &[PlannedOperation]) -> Vec<PlannedOperation> {
+pub fn joined(operations: &[PlannedOperation]) -> Vec<PlannedOperation> {
     let mut joined: Vec<PlannedOperation> = Vec::new();
     for operation in operations {
         match (joined.last_mut(), operation) {

@@ -3,13 +3,37 @@
 use buslist::{limit, Plan, PlannedCall, PlannedOperation};
 use cases::Rng;
 
+use crate::reduce::is_blocking;
+
+/// Whether the first call was written as the second in this way.
+type Way = fn(&PlannedCall, &PlannedCall) -> bool;
+
+/// The ways in which a call is written anew, for the counts.
+pub const WAYS: [(&str, Way); 5] = [
+    ("a plain polling call as a transaction", |call, again| {
+        call.kind < 3 && again.kind == 3
+    }),
+    ("a transaction as a plain polling call", |call, again| {
+        call.kind == 3 && again.kind < 3
+    }),
+    ("a transaction with other operations", |call, again| {
+        call.kind == 3 && again.kind == 3 && call.operations != again.operations
+    }),
+    ("a blocking write or read as a write_read", |call, again| {
+        matches!(call.kind, 4 | 5) && again.kind == 6
+    }),
+    ("a write_read as a blocking write or read", |call, again| {
+        call.kind == 6 && matches!(again.kind, 4 | 5)
+    }),
+];
+
 /// A plan with the same reduced calls; often other kinds and operations.
 pub fn alike(rng: &mut Rng, plan: &Plan) -> Plan {
     let mut other = plan.clone();
     for call in &mut other.calls {
         // Two in ten stay as they are.
         if rng.percent(80) {
-            *call = if call.kind > 3 {
+            *call = if is_blocking(call) {
                 blocking(rng, call)
             } else {
                 polling(rng, call)
