@@ -39,7 +39,7 @@ later-bytes s (byte ∷ bytes) = write-wait s TXE ∷ Step.put wDR byte ∷ late
 abbrev pub read-status : List Step
 read-status = Step.get SR1 ∷ Step.get SR2 ∷ []
 
--- write: read SR1, SR2; first byte to DR; the later bytes; then timed BTF; nothing to write is nothing done
+-- write: read SR1, SR2; first byte to DR; the later bytes; then timed BTF; with nothing to write, nothing is done
 unfoldable pub write-bytes-and-wait : Setup → List ℕ → List Step
 write-bytes-and-wait s [] = []
 write-bytes-and-wait s (byte ∷ bytes) = (read-status ++ Step.put wDR byte ∷ []) ++ (later-bytes s bytes ++ write-wait s BTF ∷ [])
@@ -115,17 +115,17 @@ read-arm s (suc zero) = read-one s
 read-arm s (suc (suc zero)) = read-two s
 read-arm s (suc (suc (suc n))) = read-more s n
 
--- `read`: nothing to read is nothing done
+-- `read`: with nothing to read, nothing is done
 unfoldable pub read-steps : Setup → ℕ → ℕ → List Step
 read-steps s a zero = []
 read-steps s a (suc n) = send-start-and-wait s ++ (send-addr-and-wait s a true ++ read-arm s (suc n))
 
--- what one operation of a blocking call does: an empty one nothing
+-- what one operation of a blocking call does; an empty one does nothing
 abbrev pub operation-steps : Setup → ℕ → Operation → List Step
 operation-steps s a (write bytes) = write-without-stop s a bytes
 operation-steps s a (read n) = read-steps s a n
 
--- the last operation done, empty ones apart
+-- the last operation done; empty ones do not count
 abbrev pub done-last : Previous → Operation → Previous
 done-last previous (write []) = previous
 done-last previous (write (byte ∷ bytes)) = Previous.Write

@@ -70,7 +70,7 @@ fn send_start_and_wait(
     Outcome::Well(progress)
 }
 
-// The error of a wait, where a NoAcknowledge sets STOP.
+// Ends with the error of a wait. A NoAcknowledge sets STOP first.
 fn stop_for(readings: &[u32], log: &mut [u32], progress: Progress, error: BusError) -> Outcome
     ensures { λ r. ⌜ ((s : Setup) → DoesWith s (handle s Handler.stops error) readings log progress r) ⌝ }
 {
@@ -141,7 +141,7 @@ fn write_first(readings: &[u32], log: &mut [u32], progress: Progress, byte: u32)
     registers::write(log, next, registers::W_DR, byte)
 }
 
-// The first bytes that fit and whose waits are over at once. The answer is how many.
+// Writes the first bytes that fit and whose waits are over at once. The answer is how many.
 fn write_ready(readings: &[u32], log: &mut [u32], progress: Progress, bytes: &[u8]) -> usize
     ensures { λ r. ⌜ WritesReady readings log bytes progress r ⌝ }
 {
@@ -438,7 +438,7 @@ fn read_two(
     two_end(readings, log, progress2, setup)
 }
 
-// All but the last three bytes.
+// So many bytes of a read, one after the other.
 fn receive_bytes(
     readings: &[u32],
     log: &mut [u32],
@@ -547,7 +547,7 @@ fn more_ready(readings: &[u32], log: &mut [u32], progress: Progress) -> Outcome
     read_status(readings, log, next)
 }
 
-// A read of three bytes or more, once the address is sent; all but the last three are counted.
+// A read of three bytes or more, once the address is sent. `count` leaves out the last three.
 fn read_more(
     readings: &[u32],
     log: &mut [u32],

@@ -47,7 +47,7 @@ call-bytes c = c .kind ∷ c .width ∷ half-bytes (c .address) ++ half-bytes (c
 abbrev pub call-table : List Call → List ℕ
 call-table cs = flatMap call-bytes (call-entries 0 cs)
 
--- what an operation has of the data part: a write its bytes, a read nothing
+-- the bytes of the data part that an operation has: a write its bytes, a read none
 abbrev pub data-of : Operation → List ℕ
 data-of (write bs) = bs
 data-of (read n) = []

@@ -31,7 +31,7 @@ write-direction o = eqb (o .direction) 0
 abbrev pub read-direction : OperationEntry → Bool
 read-direction o = eqb (o .direction) 1
 
--- what an operation has of the data part: a write its length, a read nothing
+-- how many bytes of the data part an operation has: a write its length, a read none
 unfoldable pub written : OperationEntry → ℕ
 written o = cond (write-direction o) (o .length) 0
 

@@ -35,7 +35,7 @@ over-limit l =
 abbrev pub too-many-cycles : Micros → Hertz → Bool
 too-many-cycles timeout sysclk = ltb 4294967295 (to-cycles timeout sysclk .0)
 
--- 23: one of the three timeouts is
+-- 23: that holds of one of the three timeouts
 unfoldable pub timeout-out : Settings → Bool
 timeout-out s =
     too-many-cycles (s .«start_timeout») (s .sysclk)
@@ -50,7 +50,7 @@ address-out c = eqb (c .width) 10 || ltb 127 (c .address)
 abbrev pub empty-blocking : List ℕ → CallEntry → Bool
 empty-blocking l c = (eqb (c .kind) 4 || eqb (c .kind) 5) && eqb (operation-at l (c .first) .length) 0
 
--- what an operation receives: a read its length, a write nothing
+-- how many bytes an operation receives: a read its length, a write none
 unfoldable pub received : OperationEntry → ℕ
 received o = cond (read-direction o) (o .length) 0
 

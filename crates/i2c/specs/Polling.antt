@@ -88,7 +88,7 @@ transfer false (read n) = read-bytes n
 transfer true (write bytes) = last-write bytes
 transfer true (read n) = last-read n
 
--- what one operation of a polling call does, after this one before it
+-- what one operation of a polling call does, after the operation before it
 abbrev pub operation-steps : Bool → ℕ → Previous → Bool → Operation → List Step
 operation-steps early a previous last o = turn early a previous o ++ transfer last o
 

@@ -92,7 +92,7 @@ pub fn send_start(readings: &[u32], log: &mut [u32], progress: Progress) -> Outc
     request_start(readings, log, progress, Bits(registers::START, 0))
 }
 
-// Sends the (7-bit) address. The 8th bit is set for a read.
+// Sends the (7-bit) address. The last bit of the byte is set for a read.
 pub fn send_addr(log: &mut [u32], progress: Progress, addr: u32, read: bool) -> Outcome
     requires { ⌜ addr < 128 ⌝ }
     ensures { λ r. ⌜ Writes wDR (address-byte addr read) log progress r ⌝ }
@@ -513,7 +513,7 @@ fn write_wo_prepare(readings: &[u32], log: &mut [u32], progress: Progress, bytes
     until_stop_clear(readings, log, progress2)
 }
 
-// Prepared for a write, where the operation before was no write.
+// Prepares for a write, where the operation before was no write.
 fn turn_write(
     readings: &[u32],
     log: &mut [u32],
@@ -530,7 +530,7 @@ fn turn_write(
     }
 }
 
-// Prepared for a read, where the operation before was no read.
+// Prepares for a read, where the operation before was no read.
 fn turn_read(
     readings: &[u32],
     log: &mut [u32],
@@ -547,7 +547,7 @@ fn turn_read(
     }
 }
 
-// A write in a call, after this operation; the last one ends in STOP.
+// A write in a call, after the operation `previous`. The last one ends in STOP.
 pub fn write_operation(
     readings: &[u32],
     log: &mut [u32],
@@ -570,7 +570,7 @@ pub fn write_operation(
     write_bytes(readings, log, next, bytes)
 }
 
-// A read in a call, after this operation. Where `early` says so, an empty one is an Overrun before it is prepared.
+// A read in a call, after the operation `previous`. Where `early` says so, an empty one is an Overrun before it is prepared.
 pub fn read_operation(
     readings: &[u32],
     log: &mut [u32],

@@ -90,12 +90,12 @@ unfoldable pub reads : List Entry → ℕ
 reads [] = 0
 reads (e ∷ es) = cond (is-read (e .code)) 1 0 + reads es
 
--- bytes received: of the DR reads
+-- bytes received: those of the DR reads
 unfoldable pub received-of : List Entry → List ℕ
 received-of [] = []
 received-of (e ∷ es) = cond (is-data (e .code)) (low-byte (e .value) ∷ []) [] ++ received-of es
 
--- an access: a read of this register, or a write of this value to this one
+-- an access: a read of this register, or a write to this register of this value
 pub data Access : Type 0 where
   read : ℕ → Access
   write : ℕ → ℕ → Access

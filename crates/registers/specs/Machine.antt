@@ -15,7 +15,7 @@ use Rattle.registers.specs.declared.Awaited.{Awaited}
 use Rattle.registers.specs.Word.{has, with-bits, without-bits, none, one, SB, BERR, ARLO, AF, OVR, PECERR, TIMEOUT, MSL, BUSY, PE, START, STOP, SWRST}
 use Rattle.registers.specs.Access.{SR1, SR2, CR1, CYC, wCR1, wCR2, wCCR, wTRISE, wSR1, cut, clear-word, reads, Access, read, write, no-readings, no-record, Ending, well, failed, cut-short}
 
--- what a timed wait does with an error: end the call; end it, with STOP set before where it is a NoAcknowledge; or reset, with that many tries left
+-- what a timed wait does with an error: end the call; set STOP where it is a NoAcknowledge, and end the call; or reset, with that many tries left
 pub data Handler : Type 0 where
   ends : Handler
   stops : Handler
@@ -25,7 +25,7 @@ pub data Step : Type 0 where
   fail : BusError → Step  -- the call ends with this error: no access
   put : ℕ → ℕ → Step  -- write this value to this register
   get : ℕ → Step  -- read this register
-  modify : Bits → Bits → Step  -- set in CR1: read it, then write it with only these bits altered: those set, these clear
+  modify : Bits → Bits → Step  -- set in CR1: read it, then write it with only these bits altered: the first set, the second clear
   stop-clear : Step  -- read CR1 until STOP is clear
   check : ℕ → Source → Step  -- check until this SR1 flag is set
   check-master : Step  -- check and read SR2 until MSL or BUSY
@@ -64,7 +64,7 @@ check-word n v =
     (cond (has ARLO v) (Flagged.Error BusError.ArbitrationLoss)
     Flagged.Nothing))))
 
--- after a check: it clears and ends the call; else BERR clears, and the same word is used
+-- after a check: an error clears and ends the call; else BERR clears, and the same word is used
 unfoldable pub after-check : Flagged → Bool → List Step → List Step
 after-check (Flagged.Error e) berr next = clear e ∷ fail e ∷ []
 after-check Flagged.Nothing true next = clear BusError.Bus ∷ next
@@ -123,12 +123,12 @@ unfoldable pub poll-ready : Awaited → ℕ → Bool
 poll-ready (Awaited.Flag f n) v = has f v
 poll-ready Awaited.Stop v = not (has STOP v)
 
--- after a poll: it clears, and the handler ends or retries; else ready if the flag is set, and the next CYC read if not
+-- after a poll: an error clears, and the handler ends or retries; else the wait is over if it is ready, and goes on with the next CYC read if not
 unfoldable pub after-poll : Setup → Handler → Flagged → Bool → Step → List Step
 after-poll s h (Flagged.Error e) ready later = clear e ∷ handle s h e
 after-poll s h Flagged.Nothing ready later = cond ready [] (later ∷ [])
 
--- what a step does: it fails the call and makes no access, or it makes this one
+-- what a step does: it fails the call and makes no access, or it makes this access
 pub data Act : Type 0 where
   halt : BusError → Act
   make : Access → Act
@@ -179,7 +179,7 @@ ended e = record { log = []; ending = e }
 abbrev pub logged : ℕ → ℕ → Ran → Ran
 logged c v r = record { log = record { code = c; value = v } ∷ r .log; ending = r .ending }
 
--- fewer than an entry's words remain: only a step that makes no access can end the call otherwise
+-- too few words remain for an entry: a step that makes no access fails the call, any other is cut short
 unfoldable pub no-room : Act → Ran
 no-room (halt e) = ended (failed e)
 no-room (make a) = ended (cut-short (no-record a))

@@ -33,11 +33,11 @@ received e (at rs lg rx b) =
     at rs lg (cond (is-data (e .code)) (set rx (b .got) (low-byte (e .value))) rx)
     (record { used = b .used; made = b .made; got = cond (is-data (e .code)) (b .got + 1) (b .got) })
 
--- so many bytes written, the wait before each over at once: CYC, SR1 and DR
+-- how far a run has come after so many bytes whose waits were over at once: CYC, SR1 and DR for each
 abbrev pub after-bytes : Progress → ℕ → Progress
 after-bytes b n = record { used = b .used + 2 * n; made = b .made + 3 * n; got = b .got }
 
--- the record after one
+-- the record after one such byte
 unfoldable pub store-byte : List ℕ → List ℕ → Progress → ℕ → List ℕ
 store-byte rs lg b byte =
     store
@@ -58,7 +58,7 @@ room (at rs lg rx b) = entries-in (length lg) - b .made
 unfoldable pub left : State → List ℕ
 left (at rs lg rx b) = drop (b .used) rs
 
--- what steps come to: on from a state, or the end there
+-- what steps come to: the run goes on from a state, or has ended there
 pub data After : Type 0 where
   going : State → After
   failed : BusError → State → After

@@ -139,7 +139,7 @@ pub enum Awaited {
 // Up to two bits of a word, by weight; 0 is no bit.
 pub struct Bits(pub u32, pub u32);
 
-// The words of a record entry.
+// How many words a record entry has.
 pub const ENTRY_WORDS: usize = 2;
 
 // A record entry.
@@ -326,7 +326,7 @@ pub fn write_at_once(readings: &[u32], log: &mut [u32], progress: Progress, byte
     );
 }
 
-// A read for its own sake: the word plays no part.
+// The outcome of a read whose word plays no part.
 pub fn outcome_of(t: Taken) -> Outcome
     ensures { λ r. ⌜ r ≡ outcome-of t ⌝ }
 {
@@ -346,7 +346,7 @@ pub fn checked_of(t: Taken) -> Checked
     }
 }
 
-// A check for its own sake: the word plays no part.
+// The outcome of a check whose word plays no part.
 pub fn check_outcome(c: Checked) -> Outcome
     ensures { λ r. ⌜ r ≡ check-outcome c ⌝ }
 {
@@ -379,7 +379,7 @@ pub fn word_of(o: Outcome, word: u32) -> Checked
     }
 }
 
-// A read of any register but DR, for its own sake.
+// A read of any register but DR, whose word plays no part.
 pub fn get(readings: &[u32], log: &mut [u32], progress: Progress, code: u32) -> Outcome
     requires { ⌜ (is-read code ≡ true) × (is-data code ≡ false) ⌝ }
     ensures { λ r. ⌜ Does (Step.get code ∷ []) readings log progress r ⌝ }
