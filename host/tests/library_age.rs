@@ -22,7 +22,7 @@ impl Repository {
         let repository = Repository(root);
         repository.write(
             "crates.txt",
-            "# NAME: what it uses\nlow:\nmiddle: low # and no more\nengine: middle kit\nabove: engine\n",
+            "# NAME: what it uses\nlow:\nmiddle: low # not above\nengine: middle kit\nabove: engine\n",
         );
         for name in ["low", "middle", "engine", "above"] {
             for part in ["src", "specs", "proofs/deep", "must-fail"] {
