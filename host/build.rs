@@ -1,17 +1,21 @@
 //! Finds the engine's static library, or has `rt` build it, and links it.
 //!
 //! In this order: the folder that `ENGINE_LIBRARY` names (a relative one starts at this package);
-//! `target/staticlib` at the repository's root; that folder again, after `rt staticlib engine`.
+//! `target/staticlib` at the repository's root; that folder again, after `rt staticlib engine`. A
+//! library at the repository's root must not be older than what it is built from.
 
 use std::env;
 use std::ffi::OsString;
-use std::io::ErrorKind;
+use std::io::{self, ErrorKind};
 use std::path::{Path, PathBuf};
-use std::process::{Command, ExitCode};
+use std::process::Command;
+
+#[path = "build/age.rs"]
+mod age;
 
 const LIBRARY: &str = "libengine.a";
 
-fn main() -> ExitCode {
+fn main() {
     println!("cargo::rerun-if-changed=build.rs");
     println!("cargo::rerun-if-env-changed=ENGINE_LIBRARY");
     match library_folder() {
@@ -19,13 +23,12 @@ fn main() -> ExitCode {
             println!("cargo::rerun-if-changed={}", folder.join(LIBRARY).display());
             println!("cargo::rustc-link-search=native={}", folder.display());
             println!("cargo::rustc-link-lib=static=engine");
-            ExitCode::SUCCESS
         }
+        // Such a line fails the build. An exit status would too, but cargo then prints all lines above as well.
         Err(message) => {
             for line in message.lines() {
                 println!("cargo::error={line}");
             }
-            ExitCode::FAILURE
         }
     }
 }
@@ -33,25 +36,14 @@ fn main() -> ExitCode {
 fn library_folder() -> Result<PathBuf, String> {
     check_target()?;
     let package = PathBuf::from(variable("CARGO_MANIFEST_DIR")?);
-    if let Some(folder) = env::var_os("ENGINE_LIBRARY").filter(|folder| !folder.is_empty()) {
+    match env::var_os("ENGINE_LIBRARY").filter(|folder| !folder.is_empty()) {
         // `join` takes an absolute folder as it is.
-        let folder = package.join(folder);
-        if folder.join(LIBRARY).is_file() {
-            return Ok(folder);
-        }
-        return Err(format!(
-            "ENGINE_LIBRARY names {}, which has no {LIBRARY}",
-            folder.display()
-        ));
+        Some(folder) => named_folder(package.join(folder)),
+        None => repository_folder(package.parent().ok_or(
+            "This package has no folder above it, which would be the repository's root.\n\
+             Set ENGINE_LIBRARY to a folder that has libengine.a.",
+        )?),
     }
-    let root = package
-        .parent()
-        .ok_or("this package has no folder above it; set ENGINE_LIBRARY")?;
-    let folder = root.join("target").join("staticlib");
-    if !folder.join(LIBRARY).is_file() {
-        build_library(root, &folder)?;
-    }
-    Ok(folder)
 }
 
 /// The library is machine code for one kind of machine. Linking it elsewhere would fail with a message that says less.
@@ -62,40 +54,85 @@ fn check_target() -> Result<(), String> {
         return Ok(());
     }
     Err(format!(
-        "{LIBRARY} is built for x86-64 Linux; the target is {} {}",
+        "{LIBRARY} is for x86-64 Linux, and the target is {} {}.\n\
+         Build for the target x86_64-unknown-linux-gnu.",
         arch.display(),
         os.display()
     ))
 }
 
-fn build_library(root: &Path, folder: &Path) -> Result<(), String> {
-    let missing = format!("{} is not there", folder.join(LIBRARY).display());
-    let output = match Command::new("rt")
+/// A library that is named is taken as it is.
+fn named_folder(folder: PathBuf) -> Result<PathBuf, String> {
+    if folder.join(LIBRARY).is_file() {
+        return Ok(folder);
+    }
+    Err(format!(
+        "ENGINE_LIBRARY names {}, which has no {LIBRARY}.\n\
+         Name a folder that has it, or unset ENGINE_LIBRARY to use the repository's own.",
+        folder.display()
+    ))
+}
+
+/// The folder of the library that `rt` builds, with a library that is there and not too old.
+fn repository_folder(root: &Path) -> Result<PathBuf, String> {
+    let folder = root.join("target").join("staticlib");
+    let library = folder.join(LIBRARY);
+    let sources = age::sources(root).map_err(with_advice)?;
+    for source in &sources {
+        println!("cargo::rerun-if-changed={}", source.display());
+    }
+    if !library.is_file() {
+        build_library(root, &library)?;
+    }
+    match age::newer(&library, &sources).map_err(with_advice)? {
+        None => Ok(folder),
+        Some(source) => Err(format!(
+            "target/staticlib/{LIBRARY} is older than the last change to {}.\n\
+             Run `rt staticlib engine` at the repository's root, which proves the engine and builds its library again.",
+            source.strip_prefix(root).unwrap_or(&source).display()
+        )),
+    }
+}
+
+fn with_advice(message: String) -> String {
+    format!(
+        "{message}\n\
+         Build within the whole repository, or set ENGINE_LIBRARY to a folder that has {LIBRARY}."
+    )
+}
+
+fn build_library(root: &Path, library: &Path) -> Result<(), String> {
+    let missing = format!("{} is not there", library.display());
+    let output = Command::new("rt")
         .args(["staticlib", "engine"])
         .current_dir(root)
         .output()
-    {
-        Ok(output) => output,
-        Err(error) if error.kind() == ErrorKind::NotFound => {
-            return Err(format!(
-                "{missing}, and `rt` is not on PATH to build it.\n\
-                 Run `rt staticlib engine` at the repository's root on a machine that has the Rattle kit,\n\
-                 or set ENGINE_LIBRARY to a folder that has {LIBRARY}."
-            ));
-        }
-        Err(error) => return Err(format!("{missing}, and `rt` could not be started: {error}")),
-    };
-    if output.status.success() && folder.join(LIBRARY).is_file() {
+        .map_err(|error| not_started(&missing, &error))?;
+    if output.status.success() && library.is_file() {
         return Ok(());
     }
     Err(format!(
-        "{missing}, and `rt staticlib engine` did not build it ({}):\n{}{}",
+        "{missing}, and `rt staticlib engine` did not build it ({}).\n\
+         Run it at the repository's root and correct what it refuses, then build again. It wrote:\n{}{}",
         output.status,
         String::from_utf8_lossy(&output.stdout),
         String::from_utf8_lossy(&output.stderr)
     ))
 }
 
+fn not_started(missing: &str, error: &io::Error) -> String {
+    let why = match error.kind() {
+        ErrorKind::NotFound => "`rt` is not on PATH to build it".to_string(),
+        _ => format!("`rt` could not be started to build it: {error}"),
+    };
+    format!(
+        "{missing}, and {why}.\n\
+         Run `rt staticlib engine` at the repository's root on a machine that has the Rattle kit,\n\
+         or set ENGINE_LIBRARY to a folder that has {LIBRARY}."
+    )
+}
+
 fn variable(name: &str) -> Result<OsString, String> {
-    env::var_os(name).ok_or_else(|| format!("{name} is not set; this script is for cargo"))
+    env::var_os(name)
+        .ok_or_else(|| format!("{name} is not set. Run this script through cargo, which sets it."))
 }

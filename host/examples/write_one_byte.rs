@@ -3,13 +3,16 @@
 //! It is the first proved example of the scope paper (P1): 36 MHz, Standard, 100,000 Hz, and a
 //! polling write of 2A to address 50 hexadecimal.
 
-use std::error::Error;
+use std::process::ExitCode;
 
-use vandhukril::{BusList, Hertz, Mode, Report, Settings, run};
+use vandhukril::{BusList, DoesNotFit, Hertz, Mode, PollingSettings, Report, run};
 
-fn print_run() -> Result<String, Box<dyn Error>> {
-    let settings = Settings::new(Hertz(36_000_000), Mode::Standard, Hertz(100_000));
-    let mut list = BusList::new(settings);
+fn print_run() -> Result<String, DoesNotFit> {
+    let mut list = BusList::new(PollingSettings {
+        pclk1: Hertz(36_000_000),
+        mode: Mode::Standard,
+        frequency: Hertz(100_000),
+    });
     list.write(0x50, &[0x2a]);
 
     // What the registers show, in the order in which the engine reads them.
@@ -34,9 +37,17 @@ fn print_run() -> Result<String, Box<dyn Error>> {
     Ok(report.to_string())
 }
 
-fn main() -> Result<(), Box<dyn Error>> {
-    print!("{}", print_run()?);
-    Ok(())
+fn main() -> ExitCode {
+    match print_run() {
+        Ok(text) => {
+            print!("{text}");
+            ExitCode::SUCCESS
+        }
+        Err(error) => {
+            eprintln!("{error}");
+            ExitCode::FAILURE
+        }
+    }
 }
 
 #[test]

@@ -45,7 +45,7 @@ pub enum Cause {
     RecordFull,
     /// 20 to 26: the list was refused before any access.
     Refused(Refusal),
-    /// A number that this crate does not know. The library linked is then another than this crate was written for.
+    /// A number that this crate does not know: the linked library does not belong to this version of the crate.
     Other(u32),
 }
 
@@ -147,6 +147,60 @@ impl Cause {
             Cause::Other(_) => "a number that this crate does not know",
         }
     }
+
+    /// What to do next, in a sentence or two.
+    pub const fn advice(self) -> &'static str {
+        match self {
+            Cause::Overrun => {
+                "If a polling call ends in a read of length 0, take that read out or give it a length. \
+                 If none does, OVR was set and a byte was lost: run the list again."
+            }
+            Cause::NoAcknowledge(source) => source.advice(),
+            Cause::Timeout => {
+                "The last accesses of the record show what the run waited for. Check the device \
+                 and the wiring, or give blocking calls longer timeouts."
+            }
+            Cause::Bus => {
+                "BERR was set, for a START or STOP in the wrong place. Check the wiring and the \
+                 pull-ups, then run the list again."
+            }
+            Cause::Crc => {
+                "PECERR was set, for a checksum that is wrong. Check the wiring, then run the list again."
+            }
+            Cause::ArbitrationLoss => {
+                "Another master took the bus. Run the list again once the bus is free."
+            }
+            Cause::ReadingsUsed => "Run the list again with more readings.",
+            Cause::RecordFull => {
+                "Run the list again with a longer record: each access takes two words."
+            }
+            Cause::Refused(refusal) => refusal.advice(),
+            Cause::Other(_) => {
+                "The linked library does not belong to this version of the crate. Run \
+                 `rt staticlib engine` at the repository's root, then build again."
+            }
+        }
+    }
+}
+
+impl NoAcknowledge {
+    /// What to do next.
+    const fn advice(self) -> &'static str {
+        match self {
+            NoAcknowledge::Address => {
+                "Check that the call has the device's seven-bit address, and that the device is \
+                 connected and ready. A polling write also ends this way when the device takes \
+                 no more bytes."
+            }
+            NoAcknowledge::Data => {
+                "Check how many bytes the device takes, and that it is ready for them, then run \
+                 the list again."
+            }
+            NoAcknowledge::Unknown => {
+                "AF was set before an address was sent. Check the devices on the bus, then run the list again."
+            }
+        }
+    }
 }
 
 impl Refusal {
@@ -187,14 +241,14 @@ impl Refusal {
     pub const fn advice(self) -> &'static str {
         match self {
             Refusal::Form => {
-                "Some count, offset, kind, direction or zero field is not what the rest of the list \
-                 makes it, so nothing in the list was taken as meant; correct the first such byte."
+                "Look at the list with `explain` or with the example `show_list`: they name the \
+                 first field that is wrong. Correct that field."
             }
             Refusal::Limit => {
                 "Split the list, or the operation: at most 32,768 bytes, 256 calls, 1,024 operations, \
                  and 4,096 bytes in one operation."
             }
-            Refusal::Frequency => "Set the bus frequency to 1 to 400,000 Hz.",
+            Refusal::Frequency => "Set the frequency to a number from 1 to 400,000, in hertz.",
             Refusal::Timeout => {
                 "Shorten the start, address or data timeout: its microseconds times the whole \
                  megahertz of sysclk must not pass 4,294,967,295 cycles."
@@ -213,15 +267,23 @@ impl Refusal {
     }
 }
 
+/// The words, the number, and what to do next.
 impl fmt::Display for Cause {
     fn fmt(&self, f: &mut fmt::Formatter<'_>) -> fmt::Result {
         match self {
             Cause::Refused(refusal) => refusal.fmt(f),
-            cause => write!(f, "{} ({})", cause.words(), cause.number()),
+            cause => write!(
+                f,
+                "{} ({}). {}",
+                cause.words(),
+                cause.number(),
+                cause.advice()
+            ),
         }
     }
 }
 
+/// The words, the number, and what to do next.
 impl fmt::Display for Refusal {
     fn fmt(&self, f: &mut fmt::Formatter<'_>) -> fmt::Result {
         write!(
@@ -234,12 +296,20 @@ impl fmt::Display for Refusal {
     }
 }
 
+/// The cause, the counts so far, and what to do next.
 impl fmt::Display for Error {
     fn fmt(&self, f: &mut fmt::Formatter<'_>) -> fmt::Result {
         match self.cause {
             // Its counts are all zero, and say nothing.
             Cause::Refused(refusal) => refusal.fmt(f),
-            cause => write!(f, "{cause}, after {}", self.counts),
+            cause => write!(
+                f,
+                "stopped: {} ({}). So far: {}. {}",
+                cause.words(),
+                cause.number(),
+                self.counts,
+                cause.advice()
+            ),
         }
     }
 }
@@ -278,13 +348,18 @@ impl fmt::Display for DoesNotFit {
                 length,
             } => write!(
                 f,
-                "call {call}, operation {operation}: a write of {length} bytes; a length field holds 65,535"
+                "call {call}, operation {operation}: a write of {length} bytes does not fit its length field. \
+                 Split it: the engine takes at most 4,096 bytes in one operation."
             ),
             DoesNotFit::Operations { call } => write!(
                 f,
-                "call {call}: its operations, or those before it, are more than the 65,535 that a field holds"
+                "call {call}: the operations up to its end are too many for its fields. \
+                 Split the list: the engine takes at most 1,024 operations."
             ),
-            DoesNotFit::Whole => f.write_str("the list is longer than its 32-bit fields can tell"),
+            DoesNotFit::Whole => f.write_str(
+                "the list is too long for the fields of its header. \
+                 Split it: the engine takes at most 32,768 bytes.",
+            ),
         }
     }
 }
@@ -316,7 +391,7 @@ mod tests {
     }
 
     #[test]
-    fn a_stop_is_told_with_its_counts_and_a_refusal_with_advice() {
+    fn a_stop_is_told_with_its_counts_and_a_refusal_without() {
         let counts = Counts {
             calls: 1,
             readings: 12,
@@ -324,13 +399,14 @@ mod tests {
             received: 0,
         };
         let stopped = Error {
-            cause: Cause::NoAcknowledge(NoAcknowledge::Data),
+            cause: Cause::ReadingsUsed,
             counts,
         };
         assert_eq!(
             stopped.to_string(),
-            "NoAcknowledge Data (3), after 1 calls ended well, 12 readings used, \
-             21 accesses made, 0 bytes received"
+            "stopped: the next access is a read and every reading is used (9). \
+             So far: 1 call ended well, 12 readings used, 21 accesses made, 0 bytes received. \
+             Run the list again with more readings."
         );
         let refused = Error {
             cause: Cause::Refused(Refusal::Frequency),
@@ -338,7 +414,45 @@ mod tests {
         };
         assert_eq!(
             refused.to_string(),
-            "refused: frequency 0 or above 400,000 (22). Set the bus frequency to 1 to 400,000 Hz."
+            "refused: frequency 0 or above 400,000 (22). \
+             Set the frequency to a number from 1 to 400,000, in hertz."
+        );
+    }
+
+    #[test]
+    fn every_cause_says_what_to_do() {
+        for cause in Cause::ALL.into_iter().chain([Cause::Other(11)]) {
+            let advice = cause.advice();
+            assert!(advice.ends_with('.'), "{advice}");
+            assert!(
+                cause
+                    .to_string()
+                    .ends_with(&format!(" ({}). {advice}", cause.number()))
+            );
+            let counts = Counts::default();
+            assert!(Error { cause, counts }.to_string().ends_with(advice));
+        }
+    }
+
+    #[test]
+    fn what_does_not_fit_is_to_be_split() {
+        let write = DoesNotFit::Write {
+            call: 2,
+            operation: 0,
+            length: 65_536,
+        };
+        let texts = [write, DoesNotFit::Operations { call: 3 }, DoesNotFit::Whole]
+            .map(|error| error.to_string());
+        assert_eq!(
+            texts,
+            [
+                "call 2, operation 0: a write of 65536 bytes does not fit its length field. \
+                 Split it: the engine takes at most 4,096 bytes in one operation.",
+                "call 3: the operations up to its end are too many for its fields. \
+                 Split the list: the engine takes at most 1,024 operations.",
+                "the list is too long for the fields of its header. \
+                 Split it: the engine takes at most 32,768 bytes.",
+            ]
         );
     }
 }

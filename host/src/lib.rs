@@ -8,7 +8,7 @@
 //!
 //! | To do this | use |
 //! |---|---|
-//! | make a bus list | [`BusList`] |
+//! | make a bus list | [`BusList`], with [`Settings`] or [`PollingSettings`] |
 //! | run it | [`run`] |
 //! | see what the run did | [`accesses`], [`Report`] |
 //! | learn why it did not end well | [`Error`], [`Cause`], [`Refusal`] |
@@ -21,10 +21,13 @@
 //! the bus; here every register always shows C7 hexadecimal, that is, every flag the engine waits for.
 //!
 //! ```
-//! use vandhukril::{ACCESS_WORDS, BusList, Hertz, Mode, Settings, accesses};
+//! use vandhukril::{ACCESS_WORDS, BusList, Hertz, Mode, PollingSettings, accesses};
 //!
-//! let settings = Settings::new(Hertz(36_000_000), Mode::Standard, Hertz(100_000));
-//! let mut list = BusList::new(settings);
+//! let mut list = BusList::new(PollingSettings {
+//!     pclk1: Hertz(36_000_000),
+//!     mode: Mode::Standard,
+//!     frequency: Hertz(100_000),
+//! });
 //! list.write(0x50, &[0x2a]).read(0x50, 2);
 //!
 //! let readings = [0xc7; 100];
@@ -55,9 +58,10 @@ mod record;
 mod run;
 mod settings;
 pub mod speed;
+mod text;
 
 pub use error::{Cause, DoesNotFit, Error, NoAcknowledge, Refusal};
-pub use list::{Address, BusList, Call, Fault, Kind, Operation, explain, show};
+pub use list::{Address, BusList, Call, Fault, Kind, Operation, Warning, explain, show};
 pub use record::{ACCESS_WORDS, Access, Direction, Register, Report, accesses};
 pub use run::{Counts, answer, run};
-pub use settings::{Hertz, Micros, Mode, Settings};
+pub use settings::{Hertz, ListSettings, Micros, Mode, PollingSettings, Settings};

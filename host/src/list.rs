@@ -4,13 +4,15 @@ mod bytes;
 mod check;
 mod layout;
 mod show;
+mod warn;
 
 use std::fmt;
 
-use crate::settings::Settings;
+use crate::settings::{ListSettings, Settings};
 
 pub use check::{Fault, explain};
 pub use show::show;
+pub use warn::Warning;
 
 /// What a call does, and which engine does it.
 #[derive(Clone, Copy, Debug, PartialEq, Eq, Hash)]
@@ -59,6 +61,13 @@ impl Kind {
     /// The kind of a number, if it has one.
     pub fn from_number(number: u8) -> Option<Kind> {
         Kind::ALL.into_iter().find(|kind| kind.number() == number)
+    }
+
+    fn is_blocking(self) -> bool {
+        match self {
+            Kind::Write | Kind::Read | Kind::WriteRead | Kind::Transaction => false,
+            Kind::BlockingWrite | Kind::BlockingRead | Kind::BlockingWriteRead => true,
+        }
     }
 }
 
@@ -144,16 +153,21 @@ impl Call {
 /// count and offset. What it writes is always of the form of a bus list (never cause 20). Whether
 /// the engine accepts it, with its settings, addresses and lengths, is for the engine to say.
 ///
+/// Which calls a list can have follows from the type of its settings. With [`Settings`] it can have
+/// them all:
+///
 /// ```
 /// use vandhukril::{BusList, Hertz, Micros, Mode, Operation, Settings};
 ///
 /// let mut list = BusList::new(Settings {
+///     pclk1: Hertz(36_000_000),
 ///     sysclk: Hertz(72_000_000),
+///     mode: Mode::Fast2To1,
+///     frequency: Hertz(400_000),
 ///     start_timeout: Micros(1000),
 ///     start_retries: 3,
 ///     address_timeout: Micros(1000),
 ///     data_timeout: Micros(1000),
-///     ..Settings::new(Hertz(36_000_000), Mode::Fast2To1, Hertz(400_000))
 /// });
 /// list.blocking_write_read(0x50, &[0x00, 0x10], 16)
 ///     .transaction(0x68, [Operation::Write(vec![1]), Operation::Read(4), Operation::Read(2)]);
@@ -163,15 +177,30 @@ impl Call {
 /// assert_eq!(BusList::from_bytes(&bytes)?, list);
 /// # Ok::<(), Box<dyn std::error::Error>>(())
 /// ```
+///
+/// With [`PollingSettings`](crate::PollingSettings), which have no timeouts and no retries, it can
+/// have polling calls only. This does not compile:
+///
+/// ```compile_fail,E0599
+/// use vandhukril::{BusList, Hertz, Mode, PollingSettings};
+///
+/// let mut list = BusList::new(PollingSettings {
+///     pclk1: Hertz(36_000_000),
+///     mode: Mode::Standard,
+///     frequency: Hertz(100_000),
+/// });
+/// list.blocking_write(0x50, &[0x2a]);
+/// ```
 #[derive(Clone, Debug, PartialEq, Eq, Hash)]
-pub struct BusList {
-    settings: Settings,
+pub struct BusList<S = Settings> {
+    settings: S,
     calls: Vec<Call>,
 }
 
-impl BusList {
+/// What every list has: polling calls, and what can be asked of it.
+impl<S: ListSettings> BusList<S> {
     /// A list with these settings and no calls.
-    pub fn new(settings: Settings) -> BusList {
+    pub fn new(settings: S) -> Self {
         BusList {
             settings,
             calls: Vec::new(),
@@ -179,7 +208,7 @@ impl BusList {
     }
 
     /// The settings.
-    pub fn settings(&self) -> &Settings {
+    pub fn settings(&self) -> &S {
         &self.settings
     }
 
@@ -189,12 +218,12 @@ impl BusList {
     }
 
     /// Adds a polling write (kind 0).
-    pub fn write(&mut self, address: impl Into<Address>, bytes: &[u8]) -> &mut BusList {
+    pub fn write(&mut self, address: impl Into<Address>, bytes: &[u8]) -> &mut Self {
         self.push(Kind::Write, address, vec![Operation::Write(bytes.to_vec())])
     }
 
     /// Adds a polling read (kind 1). With length 0 the run answers Overrun there.
-    pub fn read(&mut self, address: impl Into<Address>, length: u16) -> &mut BusList {
+    pub fn read(&mut self, address: impl Into<Address>, length: u16) -> &mut Self {
         self.push(Kind::Read, address, vec![Operation::Read(length)])
     }
 
@@ -204,7 +233,7 @@ impl BusList {
         address: impl Into<Address>,
         bytes: &[u8],
         length: u16,
-    ) -> &mut BusList {
+    ) -> &mut Self {
         self.push(Kind::WriteRead, address, write_then_read(bytes, length))
     }
 
@@ -213,42 +242,8 @@ impl BusList {
         &mut self,
         address: impl Into<Address>,
         operations: impl IntoIterator<Item = Operation>,
-    ) -> &mut BusList {
+    ) -> &mut Self {
         self.push(Kind::Transaction, address, operations.into_iter().collect())
-    }
-
-    /// Adds a blocking write (kind 4). The engine refuses a list with an empty one.
-    pub fn blocking_write(&mut self, address: impl Into<Address>, bytes: &[u8]) -> &mut BusList {
-        self.push(
-            Kind::BlockingWrite,
-            address,
-            vec![Operation::Write(bytes.to_vec())],
-        )
-    }
-
-    /// Adds a blocking read (kind 5). The engine refuses a list with an empty one.
-    pub fn blocking_read(&mut self, address: impl Into<Address>, length: u16) -> &mut BusList {
-        self.push(Kind::BlockingRead, address, vec![Operation::Read(length)])
-    }
-
-    /// Adds a blocking write then read in one call (kind 6). An empty half is left out of the run.
-    pub fn blocking_write_read(
-        &mut self,
-        address: impl Into<Address>,
-        bytes: &[u8],
-        length: u16,
-    ) -> &mut BusList {
-        self.push(
-            Kind::BlockingWriteRead,
-            address,
-            write_then_read(bytes, length),
-        )
-    }
-
-    /// Adds a call of another list.
-    pub fn add(&mut self, call: Call) -> &mut BusList {
-        self.calls.push(call);
-        self
     }
 
     fn push(
@@ -256,12 +251,13 @@ impl BusList {
         kind: Kind,
         address: impl Into<Address>,
         operations: Vec<Operation>,
-    ) -> &mut BusList {
-        self.add(Call {
+    ) -> &mut Self {
+        self.calls.push(Call {
             kind,
             address: address.into(),
             operations,
-        })
+        });
+        self
     }
 
     fn operations(&self) -> impl Iterator<Item = &Operation> {
@@ -279,14 +275,51 @@ impl BusList {
     }
 }
 
+/// What only a list with all eight settings has: blocking calls, and calls of any kind.
+impl BusList<Settings> {
+    /// Adds a blocking write (kind 4). The engine refuses a list with an empty one.
+    pub fn blocking_write(&mut self, address: impl Into<Address>, bytes: &[u8]) -> &mut Self {
+        self.push(
+            Kind::BlockingWrite,
+            address,
+            vec![Operation::Write(bytes.to_vec())],
+        )
+    }
+
+    /// Adds a blocking read (kind 5). The engine refuses a list with an empty one.
+    pub fn blocking_read(&mut self, address: impl Into<Address>, length: u16) -> &mut Self {
+        self.push(Kind::BlockingRead, address, vec![Operation::Read(length)])
+    }
+
+    /// Adds a blocking write then read in one call (kind 6). An empty half is left out of the run.
+    pub fn blocking_write_read(
+        &mut self,
+        address: impl Into<Address>,
+        bytes: &[u8],
+        length: u16,
+    ) -> &mut Self {
+        self.push(
+            Kind::BlockingWriteRead,
+            address,
+            write_then_read(bytes, length),
+        )
+    }
+
+    /// Adds a call of another list.
+    pub fn add(&mut self, call: Call) -> &mut Self {
+        self.calls.push(call);
+        self
+    }
+}
+
 fn write_then_read(bytes: &[u8], length: u16) -> Vec<Operation> {
     vec![Operation::Write(bytes.to_vec()), Operation::Read(length)]
 }
 
 /// The settings and the calls, a line each.
-impl fmt::Display for BusList {
+impl<S: ListSettings> fmt::Display for BusList<S> {
     fn fmt(&self, f: &mut fmt::Formatter<'_>) -> fmt::Result {
-        let s = &self.settings;
+        let s = self.settings.all();
         writeln!(
             f,
             "pclk1 {}, sysclk {}, {} {}",
@@ -323,10 +356,19 @@ impl fmt::Display for Operation {
 #[cfg(test)]
 mod tests {
     use super::*;
-    use crate::settings::{Hertz, Mode};
+    use crate::settings::{Hertz, Micros, Mode, PollingSettings};
 
     fn settings() -> Settings {
-        Settings::new(Hertz(36_000_000), Mode::Standard, Hertz(100_000))
+        Settings {
+            pclk1: Hertz(36_000_000),
+            sysclk: Hertz(72_000_000),
+            mode: Mode::Standard,
+            frequency: Hertz(100_000),
+            start_timeout: Micros(10),
+            start_retries: 3,
+            address_timeout: Micros(20),
+            data_timeout: Micros(30),
+        }
     }
 
     #[test]
@@ -346,11 +388,25 @@ mod tests {
             .blocking_write(0x68, &[7]);
         assert_eq!(
             list.to_string(),
-            "pclk1 36000000 Hz, sysclk 0 Hz, Standard 100000 Hz\n\
-             timeouts: start 0 µs, address 0 µs, data 0 µs; start retries 0\n\
+            "pclk1 36000000 Hz, sysclk 72000000 Hz, Standard 100000 Hz\n\
+             timeouts: start 10 µs, address 20 µs, data 30 µs; start retries 3\n\
              polling write_read at 0x50: write 00 1f, read 4\n\
              polling transaction at 0x123 (ten-bit):\n\
              blocking write at 0x68: write 07\n"
+        );
+    }
+
+    #[test]
+    fn a_polling_list_is_shown_with_zeros() {
+        let list = BusList::new(PollingSettings {
+            pclk1: Hertz(36_000_000),
+            mode: Mode::Standard,
+            frequency: Hertz(100_000),
+        });
+        assert_eq!(
+            list.to_string(),
+            "pclk1 36000000 Hz, sysclk 0 Hz, Standard 100000 Hz\n\
+             timeouts: start 0 µs, address 0 µs, data 0 µs; start retries 0\n"
         );
     }
 

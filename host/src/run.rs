@@ -4,6 +4,7 @@ use std::fmt;
 
 use crate::engine;
 use crate::error::{Cause, Error};
+use crate::text::counted;
 
 /// What a run did.
 #[derive(Clone, Copy, Debug, Default, PartialEq, Eq, Hash)]
@@ -22,8 +23,11 @@ impl fmt::Display for Counts {
     fn fmt(&self, f: &mut fmt::Formatter<'_>) -> fmt::Result {
         write!(
             f,
-            "{} calls ended well, {} readings used, {} accesses made, {} bytes received",
-            self.calls, self.readings, self.accesses, self.received
+            "{} ended well, {} used, {} made, {} received",
+            counted(self.calls, "call"),
+            counted(self.readings, "reading"),
+            counted(self.accesses, "access"),
+            counted(self.received, "byte")
         )
     }
 }
@@ -43,9 +47,13 @@ impl fmt::Display for Counts {
 /// # Examples
 ///
 /// ```
-/// use vandhukril::{BusList, Cause, Hertz, Mode, Settings, run};
+/// use vandhukril::{BusList, Cause, Hertz, Mode, PollingSettings, run};
 ///
-/// let settings = Settings::new(Hertz(36_000_000), Mode::Standard, Hertz(100_000));
+/// let settings = PollingSettings {
+///     pclk1: Hertz(36_000_000),
+///     mode: Mode::Standard,
+///     frequency: Hertz(100_000),
+/// };
 /// let list = BusList::new(settings).write(0x50, &[0x2a]).to_bytes()?;
 /// let readings = [0, 1, 1, 1, 1, 3, 2, 7, 0x80, 0x84, 1, 1];
 ///

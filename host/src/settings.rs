@@ -68,7 +68,34 @@ impl fmt::Display for Mode {
     }
 }
 
-/// The eight settings of a bus list.
+/// The settings of a bus list that has polling calls only.
+///
+/// Written as bytes, such a list has 0 for each setting that only blocking calls use.
+#[derive(Clone, Copy, Debug, PartialEq, Eq, Hash)]
+pub struct PollingSettings {
+    /// The clock of the peripheral, from which the speed words are made.
+    pub pclk1: Hertz,
+    /// The bus mode.
+    pub mode: Mode,
+    /// The bus frequency, 1 to 400,000 Hz.
+    pub frequency: Hertz,
+}
+
+/// The settings of a bus list that may have blocking calls: all eight.
+///
+/// There is no constructor and no default, so that none of the eight is forgotten. With 0 retries
+/// a blocking call sends no START, and a timeout of 0 waits for nothing.
+///
+/// ```compile_fail,E0063
+/// use vandhukril::{Hertz, Mode, Settings};
+///
+/// // It names no sysclk, no timeouts and no retries.
+/// let settings = Settings {
+///     pclk1: Hertz(36_000_000),
+///     mode: Mode::Standard,
+///     frequency: Hertz(100_000),
+/// };
+/// ```
 #[derive(Clone, Copy, Debug, PartialEq, Eq, Hash)]
 pub struct Settings {
     /// The clock of the peripheral, from which the speed words are made.
@@ -89,18 +116,39 @@ pub struct Settings {
     pub data_timeout: Micros,
 }
 
-impl Settings {
-    /// Settings for polling calls: sysclk, the timeouts and the retries are 0, and only blocking calls use those.
-    pub const fn new(pclk1: Hertz, mode: Mode, frequency: Hertz) -> Settings {
-        Settings {
-            pclk1,
-            sysclk: Hertz(0),
-            mode,
-            frequency,
-            start_timeout: Micros(0),
-            start_retries: 0,
-            address_timeout: Micros(0),
-            data_timeout: Micros(0),
+/// The settings of a bus list: [`Settings`] or [`PollingSettings`]. No other type can have this trait.
+pub trait ListSettings: sealed::AllSettings {}
+
+impl ListSettings for PollingSettings {}
+impl ListSettings for Settings {}
+
+mod sealed {
+    use super::{Hertz, Micros, PollingSettings, Settings};
+
+    /// Other crates cannot name this trait, so no type of theirs can have it.
+    pub trait AllSettings {
+        /// The eight settings as a list holds them.
+        fn all(&self) -> Settings;
+    }
+
+    impl AllSettings for PollingSettings {
+        fn all(&self) -> Settings {
+            Settings {
+                pclk1: self.pclk1,
+                sysclk: Hertz(0),
+                mode: self.mode,
+                frequency: self.frequency,
+                start_timeout: Micros(0),
+                start_retries: 0,
+                address_timeout: Micros(0),
+                data_timeout: Micros(0),
+            }
+        }
+    }
+
+    impl AllSettings for Settings {
+        fn all(&self) -> Settings {
+            *self
         }
     }
 }

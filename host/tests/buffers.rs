@@ -17,11 +17,10 @@ struct Case {
 }
 
 fn cases() -> Vec<Case> {
-    let polling = Settings::new(Hertz(36_000_000), Mode::Standard, Hertz(100_000));
-    let mut example = BusList::new(polling);
+    let mut example = BusList::new(settings());
     example.write(0x50, &[0x2a]);
 
-    let mut not_acknowledged = BusList::new(polling);
+    let mut not_acknowledged = BusList::new(settings());
     not_acknowledged
         .write(0x50, &[1])
         .read(0x50, 3)
@@ -30,7 +29,7 @@ fn cases() -> Vec<Case> {
     // SR1, where the second byte of the read is waited for: AF.
     no_data[22] = READY | 0x400;
 
-    let mut empty_read = BusList::new(polling);
+    let mut empty_read = BusList::new(settings());
     empty_read
         .write(0x50, &[1])
         .write_read(0x50, &[2], 0)
@@ -41,7 +40,7 @@ fn cases() -> Vec<Case> {
         sysclk: Hertz(1_000_000),
         start_timeout: Micros(10),
         start_retries: 3,
-        ..polling
+        ..settings()
     });
     timeout.blocking_read(0x50, 1);
     let mut late = vec![0];
@@ -65,7 +64,7 @@ fn cases() -> Vec<Case> {
             vec![0, 1, 1, 1, 1, 3, 2, 7, 0x80, 0x84, 1, 1],
             0,
         ),
-        case("no calls", BusList::new(polling), vec![0x1234_5678], 0),
+        case("no calls", BusList::new(settings()), vec![0x1234_5678], 0),
         case("every kind", every_kind(), vec![READY; 400], 0),
         case(
             "every kind, Fast",

@@ -92,7 +92,7 @@ fn every_hand_written_refusal() {
         let refused = refusal(&case.list, room);
         let number = refused.map_or(0, |refusal| refusal.number() as usize);
         assert_eq!(number, cause, "{}", case.name);
-        let explained = explain(&case.list, room).map(|fault| fault.refusal);
+        let explained = explain(&case.list, room).err().map(|fault| fault.refusal);
         assert_eq!(explained, refused, "{}", case.name);
     }
 }

@@ -2,7 +2,7 @@
 
 mod common;
 
-use common::{Draw, every_kind, refusal};
+use common::{Draw, READY, every_kind, refusal, run_with};
 use vandhukril::{
     Address, BusList, Hertz, Micros, Mode, Operation, Refusal, Settings, explain, show,
 };
@@ -67,18 +67,21 @@ fn drawn_list(draw: &mut Draw) -> BusList {
 
 /// Holds everything that looks at bytes to the engine's own answer about them. It answers that.
 fn look(bytes: &[u8], received_length: usize) -> Option<Refusal> {
-    let fault = explain(bytes, received_length);
+    let explained = explain(bytes, received_length);
     let refused = refusal(bytes, received_length);
-    assert_eq!(
-        fault.as_ref().map(|fault| fault.refusal),
-        refused,
-        "{}",
-        show(bytes)
-    );
-
-    // A place in the list, or its end.
-    assert!(fault.is_none_or(|fault| fault.at <= bytes.len()));
     let text = show(bytes);
+    match explained {
+        Ok(warnings) => {
+            assert_eq!(refused, None, "{text}");
+            assert!(warnings.is_sorted_by_key(|warning| warning.at), "{text}");
+            assert!(warnings.iter().all(|warning| warning.at < bytes.len()));
+        }
+        Err(fault) => {
+            assert_eq!(refused, Some(fault.refusal), "{text}");
+            // A place in the list, or its end.
+            assert!(fault.at <= bytes.len());
+        }
+    }
     assert_eq!(
         text.matches(" <- ").count(),
         usize::from(refused == Some(Refusal::Form)),
@@ -107,7 +110,14 @@ fn drawn_lists_go_round() {
         let bytes = list.to_bytes().expect("it fits");
         assert_eq!(BusList::from_bytes(&bytes).as_ref(), Ok(&list));
         match look(&bytes, list.received_length()) {
-            None => accepted += 1,
+            None => {
+                accepted += 1;
+                // With every flag set, a run stops at an empty read that is warned of and nowhere else.
+                let warnings = explain(&bytes, list.received_length()).expect("it is accepted");
+                let in_operations = warnings.iter().any(|warning| warning.at > 64);
+                let ran = run_with(&bytes, &[READY; 1000], list.received_length(), 4000);
+                assert_eq!(ran.answer(), u32::from(in_operations), "{list}");
+            }
             Some(refusal) => {
                 assert!(!matches!(refusal, Refusal::Form | Refusal::ReceivedBuffer));
                 refused += 1;
@@ -157,10 +167,8 @@ fn lists_cut_and_lengthened() {
     let mut longer = bytes.clone();
     longer.push(0);
     assert_eq!(look(&longer, 100), Some(Refusal::Form));
-    assert_eq!(
-        explain(&longer, 100).map(|fault| fault.at),
-        Some(bytes.len())
-    );
+    let fault = explain(&longer, 100).unwrap_err();
+    assert_eq!(fault.at, bytes.len());
 }
 
 #[test]

@@ -3,7 +3,7 @@
 mod common;
 
 use common::{refusal, settings};
-use vandhukril::{Address, BusList, Hertz, Micros, Mode, Operation, Refusal, Settings, explain};
+use vandhukril::{Address, BusList, Hertz, Micros, Operation, Refusal, Settings, explain};
 
 /// A list that is accepted with a received buffer of two bytes.
 fn good() -> Vec<u8> {
@@ -22,7 +22,7 @@ fn refused(bytes: &[u8], received_length: usize, refusal: Refusal, at: usize, wh
         Some(refusal),
         "{what}"
     );
-    let fault = explain(bytes, received_length).expect("it is refused");
+    let fault = explain(bytes, received_length).expect_err("it is refused");
     assert_eq!(
         (fault.refusal, fault.at, fault.what.as_str()),
         (refusal, at, what)
@@ -31,7 +31,7 @@ fn refused(bytes: &[u8], received_length: usize, refusal: Refusal, at: usize, wh
 
 fn accepted(bytes: &[u8], received_length: usize) {
     assert_eq!(refusal(bytes, received_length), None);
-    assert_eq!(explain(bytes, received_length), None);
+    assert!(explain(bytes, received_length).is_ok());
 }
 
 fn with_settings(settings: Settings) -> Vec<u8> {
@@ -45,41 +45,46 @@ fn changed(at: usize, byte: u8) -> Vec<u8> {
     bytes
 }
 
+/// For the good list: the byte that is set, to what, the place that is named, and what is wrong there.
+/// The header, then the calls at 64 and 72 and the operations at 80 and 88.
+const WRONG: &str = "\
+0 3 12 operation offset is 80, but must be 88 (64 + 8 × calls)
+4 63 4 call offset is 63, but must be 64 (the length of the header)
+8 3 20 data offset is 96, but must be 104 (64 + 8 × calls + 8 × operations)
+12 81 12 operation offset is 81, but must be 80 (64 + 8 × calls)
+16 2 97 the list has 97 bytes, but must have 98 (data offset + data bytes)
+16 0 96 the list has 97 bytes, but must have 96 (data offset + data bytes)
+20 95 20 data offset is 95, but must be 96 (64 + 8 × calls + 8 × operations)
+32 3 32 mode is 3, but must be 0 to 2
+45 1 44 start retries are 258, but must be 0 to 255
+56 1 56 this word is 1, but must be 0
+63 1 60 this word is 16777216, but must be 0
+64 7 64 call 0: kind is 7, but must be 0 to 6
+64 1 64 call 0: operation 0 is a write, but a polling read needs a read there
+64 2 70 call 0: operation count is 1, but a polling write_read has 2 operations
+65 8 65 call 0: address width is 8, but must be 7 or 10
+68 1 68 call 0: first operation is 1, but must be 0 (the operations of the calls before it)
+70 3 70 call 0: operation count is 3, but the list has only 2 operations left
+70 2 70 call 0: operation count is 2, but a polling write has 1 operation
+72 4 72 call 1: operation 1 is a read, but a blocking write needs a write there
+76 0 76 call 1: first operation is 0, but must be 1 (the operations of the calls before it)
+78 2 78 call 1: operation count is 2, but the list has only 1 operation left
+80 2 80 operation 0: direction is 2, but must be 0 or 1
+81 1 81 operation 0: this byte is 1, but must be 0
+82 2 16 the header counts 1 data byte, but all writes together have 2
+84 1 84 operation 0: data offset is 1, but must be 0 (the bytes of the writes before it)
+92 1 92 operation 1: data offset is 1, but must be 0 (it is a read)
+";
+
 #[test]
 fn cause_20_in_every_field() {
     accepted(&good(), 2);
-    let form = |at, byte, place, what| refused(&changed(at, byte), 2, Refusal::Form, place, what);
-    // The header. Another count moves what the offsets must be.
-    form(0, 3, 12, "operation offset 80; by the counts it is 88");
-    form(4, 63, 4, "call offset 63; by the counts it is 64");
-    form(8, 3, 20, "data offset 96; by the counts it is 104");
-    form(12, 81, 12, "operation offset 81; by the counts it is 80");
-    form(16, 2, 97, "the list has 97 bytes; its header makes it 98");
-    form(16, 0, 96, "the list has 97 bytes; its header makes it 96");
-    form(20, 95, 20, "data offset 95; by the counts it is 96");
-    form(32, 3, 32, "mode 3 is none of 0 to 2");
-    form(45, 1, 44, "start retries 258 are above 255");
-    form(56, 1, 56, "a word that must be 0 is 1");
-    form(63, 1, 60, "a word that must be 0 is 16777216");
-    // Call 0 at 64, call 1 at 72.
-    form(64, 7, 64, "call 0: kind 7 is none of 0 to 6");
-    form(64, 1, 64, "call 0: kind 1 needs operation 0 to be a read");
-    form(64, 2, 70, "call 0: kind 2 has 2 operations, not 1");
-    form(65, 8, 65, "call 0: address width 8 is neither 7 nor 10");
-    form(68, 1, 68, "call 0: first operation 1; it must be 0");
-    form(
-        70,
-        3,
-        70,
-        "call 0: operation count 3; the list ends at 2 operations",
-    );
-    form(76, 0, 76, "call 1: first operation 0; it must be 1");
-    // Operation 0 at 80, operation 1 at 88.
-    form(80, 2, 80, "operation 0: direction 2 is neither 0 nor 1");
-    form(81, 1, 81, "operation 0: a byte that must be 0 is 1");
-    form(82, 2, 16, "data bytes 1; all writes together have 2");
-    form(84, 1, 84, "operation 0: data offset 1; it must be 0");
-    form(92, 1, 92, "operation 1: data offset 1; it must be 0");
+    for line in WRONG.lines() {
+        let fields: Vec<&str> = line.splitn(4, ' ').collect();
+        let number = |field: usize| fields[field].parse::<usize>().expect("a number");
+        let bytes = changed(number(0), number(1) as u8);
+        refused(&bytes, 2, Refusal::Form, number(2), fields[3]);
+    }
 
     // Fewer operations in the calls than in the table.
     let mut list = BusList::new(settings());
@@ -91,7 +96,7 @@ fn cause_20_in_every_field() {
         2,
         Refusal::Form,
         8,
-        "operations 2; all calls together have 1",
+        "the header counts 2 operations, but all calls together have 1",
     );
 }
 
@@ -112,7 +117,7 @@ fn cause_21_at_each_limit() {
     limit(
         &list,
         32_768,
-        "the list has 32776 bytes; 32,768 is the limit",
+        "the list has 32776 bytes, but the limit is 32,768",
     );
 
     let mut list = BusList::new(settings());
@@ -121,38 +126,41 @@ fn cause_21_at_each_limit() {
     }
     accepted(&bytes_of(&list), 0);
     list.transaction(0x50, []);
-    limit(&list, 0, "257 calls; 256 is the limit");
+    limit(&list, 0, "the list has 257 calls, but the limit is 256");
 
     let mut list = BusList::new(settings());
     list.transaction(0x50, vec![Operation::Read(0); 1024]);
     accepted(&bytes_of(&list), 0);
     list.read(0x50, 1);
-    limit(&list, 8, "1025 operations; 1,024 is the limit");
+    limit(
+        &list,
+        8,
+        "the list has 1025 operations, but the limit is 1,024",
+    );
 
     accepted(&bytes_of(BusList::new(settings()).read(0x50, 4096)), 4096);
     limit(
         BusList::new(settings()).read(0x50, 4097),
         74,
-        "operation 0: length 4097; 4,096 is the limit",
+        "operation 0: length is 4097, but the limit is 4,096",
     );
     limit(
         BusList::new(settings()).write(0x50, &[0; 4097]),
         74,
-        "operation 0: length 4097; 4,096 is the limit",
+        "operation 0: length is 4097, but the limit is 4,096",
     );
 }
 
 #[test]
 fn cause_22_outside_the_frequencies() {
     let at = |frequency| {
-        with_settings(Settings::new(
-            Hertz(36_000_000),
-            Mode::Standard,
-            Hertz(frequency),
-        ))
+        with_settings(Settings {
+            frequency: Hertz(frequency),
+            ..settings()
+        })
     };
     let frequency = |n| {
-        let what = format!("frequency {n} is not within 1 to 400,000 Hz");
+        let what = format!("frequency is {n} Hz, but must be 1 to 400,000 Hz");
         refused(&at(n), 0, Refusal::Frequency, 36, &what);
     };
     accepted(&at(1), 0);
@@ -185,7 +193,8 @@ fn cause_23_for_each_timeout() {
         // At 72 MHz, the last that passes and the first that does not.
         accepted(&with(change, 59_652_323), 0);
         let what = format!(
-            "{name} timeout 59652324 µs is 4294967328 cycles at 72 MHz; 4,294,967,295 is the limit"
+            "{name} timeout is 59652324 µs, which is 4294967328 cycles at 72 MHz, \
+             but the limit is 4,294,967,295"
         );
         refused(&with(change, 59_652_324), 0, Refusal::Timeout, at, &what);
     }
@@ -202,17 +211,33 @@ fn cause_24_for_each_address() {
         0,
         Refusal::Address,
         74,
-        "call 1: address 128 is above 127",
+        "call 1: address is 128, but must be 0 to 127",
     );
     refused(
         &to(Address::Seven(65_535)),
         0,
         Refusal::Address,
         74,
-        "call 1: address 65535 is above 127",
+        "call 1: address is 65535, but must be 0 to 127",
     );
-    let ten = "call 1: the address is ten-bit; only seven-bit ones are accepted";
+    let ten = "call 1: address is ten-bit, but must be seven-bit";
     refused(&to(Address::Ten(5)), 0, Refusal::Address, 73, ten);
+}
+
+#[test]
+fn a_fault_says_what_to_do() {
+    let to_a0 = bytes_of(BusList::new(settings()).write(0xa0, &[1]));
+    assert_eq!(
+        explain(&to_a0, 0).unwrap_err().to_string(),
+        "byte 66: call 0: address is 160, but must be 0 to 127. \
+         Give every call a seven-bit address from 0 to 127, as it is before it is shifted to make \
+         room for the direction bit."
+    );
+    assert_eq!(
+        explain(&changed(32, 3), 2).unwrap_err().to_string(),
+        "byte 32: mode is 3, but must be 0 to 2. \
+         Correct the list here, or in the field that this has to agree with."
+    );
 }
 
 #[test]
@@ -222,7 +247,7 @@ fn cause_25_for_each_empty_blocking_call() {
         .write(1, &[])
         .read(1, 0)
         .blocking_write(1, &[]);
-    let write = "call 3: a blocking write of length 0";
+    let write = "call 3: length is 0, but a blocking write needs at least one byte";
     refused(
         &bytes_of(&list),
         0,
@@ -237,7 +262,7 @@ fn cause_25_for_each_empty_blocking_call() {
         0,
         Refusal::EmptyBlocking,
         74,
-        "call 0: a blocking read of length 0",
+        "call 0: length is 0, but a blocking read needs at least one byte",
     );
 }
 
@@ -247,13 +272,15 @@ fn cause_26_for_each_length_too_short() {
     list.read(1, 3).write(1, &[9]).blocking_read(1, 2);
     let bytes = bytes_of(&list);
     for room in 0..3 {
-        let what =
-            format!("operation 0: with it the reads have 3 bytes; the received buffer has {room}");
+        let what = format!(
+            "operation 0: the reads up to this one have 3 bytes, but the received buffer has {room}"
+        );
         refused(&bytes, room, Refusal::ReceivedBuffer, 90, &what);
     }
     for room in 3..5 {
-        let what =
-            format!("operation 2: with it the reads have 5 bytes; the received buffer has {room}");
+        let what = format!(
+            "operation 2: the reads up to this one have 5 bytes, but the received buffer has {room}"
+        );
         refused(&bytes, room, Refusal::ReceivedBuffer, 106, &what);
     }
     accepted(&bytes, 5);
@@ -262,9 +289,11 @@ fn cause_26_for_each_length_too_short() {
 /// A list with every cause from 21 on; each is answered when those before it are put right.
 #[test]
 fn causes_are_answered_in_rising_order() {
-    let mut wrong = Settings::new(Hertz(36_000_000), Mode::Standard, Hertz(0));
-    wrong.sysclk = Hertz(72_000_000);
-    wrong.data_timeout = Micros(u32::MAX);
+    let wrong = Settings {
+        frequency: Hertz(0),
+        data_timeout: Micros(u32::MAX),
+        ..settings()
+    };
     let build = |settings, length, address, blocking: &[u8]| {
         let mut list = BusList::new(settings);
         list.read(1, length)

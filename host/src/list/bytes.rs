@@ -4,9 +4,9 @@ use super::check::{self, Fault};
 use super::layout::{self, HEADER, Layout, ROW};
 use super::{Address, BusList, Call, Kind, Operation};
 use crate::error::DoesNotFit;
-use crate::settings::{Hertz, Micros, Mode, Settings};
+use crate::settings::{Hertz, ListSettings, Micros, Mode, Settings};
 
-impl BusList {
+impl<S: ListSettings> BusList<S> {
     /// The list as bytes, with every count and offset computed.
     ///
     /// # Errors
@@ -42,7 +42,7 @@ impl BusList {
         let calls = self.calls.len();
         let operation_offset = HEADER + ROW * calls;
         let data_offset = operation_offset + ROW * operations;
-        let s = &self.settings;
+        let s = self.settings.all();
         Some([
             u32::try_from(calls).ok()?,
             HEADER as u32,
@@ -62,24 +62,33 @@ impl BusList {
             0,
         ])
     }
+}
 
+impl BusList<Settings> {
     /// Reads a list. Every list of the form is read, whether or not the engine would accept it.
+    ///
+    /// Its settings are those of the bytes, zeros included: [`explain`](crate::explain) warns of
+    /// zeros that do harm.
     ///
     /// # Errors
     ///
     /// Where the bytes are not of the form: the first byte at fault, and what is wrong there.
     ///
     /// ```
-    /// use vandhukril::{BusList, Hertz, Mode, Settings};
+    /// use vandhukril::{BusList, Hertz, Mode, PollingSettings};
     ///
-    /// let settings = Settings::new(Hertz(36_000_000), Mode::Standard, Hertz(100_000));
+    /// let settings = PollingSettings {
+    ///     pclk1: Hertz(36_000_000),
+    ///     mode: Mode::Standard,
+    ///     frequency: Hertz(100_000),
+    /// };
     /// let mut bytes = BusList::new(settings).read(0x50, 2).to_bytes()?;
     /// bytes[64] = 9;
     /// let fault = BusList::from_bytes(&bytes).unwrap_err();
-    /// assert_eq!(fault.to_string(), "byte 64: call 0: kind 9 is none of 0 to 6");
+    /// assert_eq!((fault.at, fault.what.as_str()), (64, "call 0: kind is 9, but must be 0 to 6"));
     /// # Ok::<(), Box<dyn std::error::Error>>(())
     /// ```
-    pub fn from_bytes(bytes: &[u8]) -> Result<BusList, Fault> {
+    pub fn from_bytes(bytes: &[u8]) -> Result<Self, Fault> {
         let layout = Layout(bytes);
         check::form(layout)?;
         // In a list of the form `read` meets nothing unknown. What it says otherwise spares a panic.
@@ -162,9 +171,14 @@ fn read(layout: Layout) -> Option<BusList> {
 #[cfg(test)]
 mod tests {
     use super::*;
+    use crate::settings::PollingSettings;
 
-    fn settings() -> Settings {
-        Settings::new(Hertz(36_000_000), Mode::Standard, Hertz(100_000))
+    fn settings() -> PollingSettings {
+        PollingSettings {
+            pclk1: Hertz(36_000_000),
+            mode: Mode::Standard,
+            frequency: Hertz(100_000),
+        }
     }
 
     #[test]

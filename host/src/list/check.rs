@@ -5,8 +5,11 @@
 
 use std::fmt;
 
+use super::Kind;
 use super::layout::{self, CallRow, HEADER, Layout, OperationRow};
+use super::warn::{Warning, warnings};
 use crate::error::Refusal;
+use crate::text::counted;
 
 /// The first thing wrong with a list.
 #[derive(Clone, Debug, PartialEq, Eq, Hash)]
@@ -28,11 +31,20 @@ impl Fault {
             what,
         }
     }
+
+    /// What to do about it. The advice of the refusal alone would be to look for the place.
+    fn advice(&self) -> &'static str {
+        match self.refusal {
+            Refusal::Form => "Correct the list here, or in the field that this has to agree with.",
+            refusal => refusal.advice(),
+        }
+    }
 }
 
+/// The place, what is wrong there, and what to do about it.
 impl fmt::Display for Fault {
     fn fmt(&self, f: &mut fmt::Formatter<'_>) -> fmt::Result {
-        write!(f, "byte {}: {}", self.at, self.what)
+        write!(f, "byte {}: {}. {}", self.at, self.what, self.advice())
     }
 }
 
@@ -55,30 +67,57 @@ fn must(
     })
 }
 
-/// Says why the engine refuses these bytes with a received buffer of this length, and where they are
-/// wrong. `None` for a list that it accepts.
+/// Says what is wrong with these bytes, or doubtful, for a run with a received buffer of this length.
+///
+/// For a list that the engine accepts these are warnings: what its author can hardly have meant. A
+/// blocking call with 0 start retries sends no START, one with a timeout that comes to 0 cycles waits
+/// for nothing, and a polling call that ends in a read of length 0 answers Overrun.
+///
+/// # Errors
+///
+/// Why the engine refuses the list, and where it is wrong.
+///
+/// # Examples
 ///
 /// ```
-/// use vandhukril::{BusList, Hertz, Mode, Refusal, Settings, explain};
+/// use vandhukril::{BusList, Hertz, Micros, Mode, Refusal, Settings, explain};
 ///
-/// let settings = Settings::new(Hertz(36_000_000), Mode::Standard, Hertz(100_000));
+/// let settings = Settings {
+///     pclk1: Hertz(36_000_000),
+///     sysclk: Hertz(72_000_000),
+///     mode: Mode::Standard,
+///     frequency: Hertz(100_000),
+///     start_timeout: Micros(1000),
+///     start_retries: 0,
+///     address_timeout: Micros(1000),
+///     data_timeout: Micros(1000),
+/// };
+/// let bytes = BusList::new(settings).write(0x50, &[1]).blocking_write(0x50, &[2]).to_bytes()?;
+/// let warnings = explain(&bytes, 0)?;
+/// assert_eq!(
+///     warnings[0].to_string(),
+///     "byte 44: start retries are 0, so call 1 (blocking write) sends no START and goes on as if \
+///      it had. Set start retries to 1 or more."
+/// );
+///
 /// let bytes = BusList::new(settings).write(0x50, &[1]).write(0xa0, &[2]).to_bytes()?;
-/// let fault = explain(&bytes, 0).expect("an address above 127");
+/// let fault = explain(&bytes, 0).unwrap_err();
 /// assert_eq!(fault.refusal, Refusal::Address);
-/// assert_eq!(fault.to_string(), "byte 74: call 1: address 160 is above 127");
+/// assert_eq!(fault.at, 74);
+/// assert_eq!(fault.what, "call 1: address is 160, but must be 0 to 127");
 /// # Ok::<(), Box<dyn std::error::Error>>(())
 /// ```
-pub fn explain(list: &[u8], received_length: usize) -> Option<Fault> {
+pub fn explain(list: &[u8], received_length: usize) -> Result<Vec<Warning>, Fault> {
     let layout = Layout(list);
     // In the order in which the engine tests them.
-    form(layout)
-        .and_then(|()| limits(layout))
-        .and_then(|()| frequency(layout))
-        .and_then(|()| timeouts(layout))
-        .and_then(|()| addresses(layout))
-        .and_then(|()| empty_blocking(layout))
-        .and_then(|()| received(layout, received_length))
-        .err()
+    form(layout)?;
+    limits(layout)?;
+    frequency(layout)?;
+    timeouts(layout)?;
+    addresses(layout)?;
+    empty_blocking(layout)?;
+    received(layout, received_length)?;
+    Ok(warnings(layout))
 }
 
 /// Cause 20. The header comes first: it bounds both tables by the bytes that are there.
@@ -91,66 +130,67 @@ pub(super) fn form(l: Layout) -> Result<(), Fault> {
 fn header(l: Layout) -> Result<(), Fault> {
     let length = l.0.len();
     must(length >= HEADER, Refusal::Form, length, || {
-        format!("the list ends here; its header has {HEADER} bytes")
+        format!("the list ends here, but its header takes {HEADER} bytes")
     })?;
-    offset(l, layout::CALL_OFFSET, "call offset", HEADER as u64)?;
-    offset(
-        l,
-        layout::OPERATION_OFFSET,
-        "operation offset",
-        l.operations_start(),
-    )?;
-    offset(l, layout::DATA_OFFSET, "data offset", l.data_start())?;
+    offsets(l)?;
     let mode = l.word(layout::MODE);
     must(mode <= 2, Refusal::Form, layout::MODE, || {
-        format!("mode {mode} is none of 0 to 2")
+        format!("mode is {mode}, but must be 0 to 2")
     })?;
     let retries = l.word(layout::START_RETRIES);
     must(retries <= 255, Refusal::Form, layout::START_RETRIES, || {
-        format!("start retries {retries} are above 255")
+        format!("start retries are {retries}, but must be 0 to 255")
     })?;
     for at in layout::ZEROS {
         let word = l.word(at);
         must(word == 0, Refusal::Form, at, || {
-            format!("a word that must be 0 is {word}")
+            format!("this word is {word}, but must be 0")
         })?;
     }
     let whole = l.data_start() + u64::from(l.word(layout::DATA));
     // Where the list is too long this is its first byte too many, else its end.
     let at = usize::try_from(whole).map_or(length, |whole| whole.min(length));
     must(length as u64 == whole, Refusal::Form, at, || {
-        format!("the list has {length} bytes; its header makes it {whole}")
+        format!("the list has {length} bytes, but must have {whole} (data offset + data bytes)")
     })
 }
 
-fn offset(l: Layout, at: usize, name: &str, expected: u64) -> Result<(), Fault> {
-    let found = l.word(at);
-    must(u64::from(found) == expected, Refusal::Form, at, || {
-        format!("{name} {found}; by the counts it is {expected}")
-    })
+fn offsets(l: Layout) -> Result<(), Fault> {
+    let fields = [
+        (
+            layout::CALL_OFFSET,
+            "call offset",
+            HEADER as u64,
+            "the length of the header",
+        ),
+        (
+            layout::OPERATION_OFFSET,
+            "operation offset",
+            l.operations_start(),
+            "64 + 8 × calls",
+        ),
+        (
+            layout::DATA_OFFSET,
+            "data offset",
+            l.data_start(),
+            "64 + 8 × calls + 8 × operations",
+        ),
+    ];
+    for (at, name, expected, why) in fields {
+        let found = l.word(at);
+        must(u64::from(found) == expected, Refusal::Form, at, || {
+            format!("{name} is {found}, but must be {expected} ({why})")
+        })?;
+    }
+    Ok(())
 }
 
 fn operations(l: Layout) -> Result<(), Fault> {
     let mut written = 0;
     for (number, row) in l.operations().enumerate() {
-        let wrong =
-            |at, what: String| Fault::form(row.at + at, format!("operation {number}: {what}"));
-        if row.direction > 1 {
-            return Err(wrong(
-                0,
-                format!("direction {} is neither 0 nor 1", row.direction),
-            ));
-        }
-        if row.zero != 0 {
-            return Err(wrong(1, format!("a byte that must be 0 is {}", row.zero)));
-        }
-        let expected = if row.direction == 0 { written } else { 0 };
-        if u64::from(row.offset) != expected {
-            return Err(wrong(
-                4,
-                format!("data offset {}; it must be {expected}", row.offset),
-            ));
-        }
+        operation(&row, written).map_err(|(at, what)| {
+            Fault::form(row.at + at, format!("operation {number}: {what}"))
+        })?;
         written += length_if(&row, 0);
     }
     let data = l.word(layout::DATA);
@@ -158,8 +198,33 @@ fn operations(l: Layout) -> Result<(), Fault> {
         u64::from(data) == written,
         Refusal::Form,
         layout::DATA,
-        || format!("data bytes {data}; all writes together have {written}"),
+        || {
+            let data = counted(data, "data byte");
+            format!("the header counts {data}, but all writes together have {written}")
+        },
     )
+}
+
+/// Whether an operation is right after writes of so many bytes. If not: the byte of its row, and what
+/// is wrong.
+fn operation(row: &OperationRow, written: u64) -> Result<(), (usize, String)> {
+    let direction = row.direction;
+    if direction > 1 {
+        return Err((0, format!("direction is {direction}, but must be 0 or 1")));
+    }
+    if row.zero != 0 {
+        return Err((1, format!("this byte is {}, but must be 0", row.zero)));
+    }
+    let (expected, why) = match direction {
+        0 => (written, "the bytes of the writes before it"),
+        _ => (0, "it is a read"),
+    };
+    let offset = row.offset;
+    if u64::from(offset) != expected {
+        let what = format!("data offset is {offset}, but must be {expected} ({why})");
+        return Err((4, what));
+    }
+    Ok(())
 }
 
 /// The operation's length if it has this direction, else 0.
@@ -175,63 +240,67 @@ fn calls(l: Layout) -> Result<(), Fault> {
     let all = u64::from(l.word(layout::OPERATIONS));
     let mut before = 0;
     for (number, row) in l.calls().enumerate() {
-        let wrong = |at, what: String| Fault::form(row.at + at, format!("call {number}: {what}"));
-        if row.width != 7 && row.width != 10 {
-            return Err(wrong(
-                1,
-                format!("address width {} is neither 7 nor 10", row.width),
-            ));
-        }
-        if u64::from(row.first) != before {
-            return Err(wrong(
-                4,
-                format!("first operation {}; it must be {before}", row.first),
-            ));
-        }
-        // Before the kind is looked at, so that its operations are there.
+        call(&row, before, all)
+            .and_then(|()| kind(l, &row))
+            .map_err(|(at, what)| Fault::form(row.at + at, format!("call {number}: {what}")))?;
         before += u64::from(row.count);
-        if before > all {
-            return Err(wrong(
-                6,
-                format!(
-                    "operation count {}; the list ends at {all} operations",
-                    row.count
-                ),
-            ));
-        }
-        kind(l, &row).map_err(|(at, what)| wrong(at, what))?;
     }
     must(before == all, Refusal::Form, layout::OPERATIONS, || {
-        format!("operations {all}; all calls together have {before}")
+        let all = counted(all, "operation");
+        format!("the header counts {all}, but all calls together have {before}")
     })
+}
+
+/// Whether a call is right after calls of so many operations, and its own are there. If not: the byte
+/// of its row, and what is wrong.
+fn call(row: &CallRow, before: u64, all: u64) -> Result<(), (usize, String)> {
+    let (width, first, count) = (row.width, row.first, row.count);
+    if width != 7 && width != 10 {
+        return Err((1, format!("address width is {width}, but must be 7 or 10")));
+    }
+    if u64::from(first) != before {
+        let what = format!(
+            "first operation is {first}, but must be {before} (the operations of the calls before it)"
+        );
+        return Err((4, what));
+    }
+    if u64::from(count) > all - before {
+        let left = counted(all - before, "operation");
+        let what = format!("operation count is {count}, but the list has only {left} left");
+        return Err((6, what));
+    }
+    Ok(())
 }
 
 /// Whether a call has the operations of its kind. If not: the byte of its row, and what is wrong.
 fn kind(l: Layout, row: &CallRow) -> Result<(), (usize, String)> {
-    let directions: &[u8] = match row.kind {
-        0 | 4 => &[0],
-        1 | 5 => &[1],
-        2 | 6 => &[0, 1],
-        3 => return Ok(()),
-        kind => return Err((0, format!("kind {kind} is none of 0 to 6"))),
+    let Some(kind) = Kind::from_number(row.kind) else {
+        return Err((0, format!("kind is {}, but must be 0 to 6", row.kind)));
+    };
+    let directions: &[u8] = match kind {
+        Kind::Write | Kind::BlockingWrite => &[0],
+        Kind::Read | Kind::BlockingRead => &[1],
+        Kind::WriteRead | Kind::BlockingWriteRead => &[0, 1],
+        Kind::Transaction => return Ok(()),
     };
     if usize::from(row.count) != directions.len() {
+        let needed = counted(directions.len(), "operation");
         let what = format!(
-            "kind {} has {} operations, not {}",
-            row.kind,
-            directions.len(),
+            "operation count is {}, but a {kind} has {needed}",
             row.count
         );
         return Err((6, what));
     }
-    for (place, &direction) in directions.iter().enumerate() {
-        let number = usize::from(row.first) + place;
-        if l.operation(number).direction != direction {
-            let name = if direction == 0 { "write" } else { "read" };
-            return Err((
-                0,
-                format!("kind {} needs operation {number} to be a {name}", row.kind),
-            ));
+    let first = usize::from(row.first);
+    for (number, (operation, &direction)) in (first..).zip(l.operations_of(row).zip(directions)) {
+        if operation.direction != direction {
+            let (found, needed) = match direction {
+                0 => ("read", "write"),
+                _ => ("write", "read"),
+            };
+            let what =
+                format!("operation {number} is a {found}, but a {kind} needs a {needed} there");
+            return Err((0, what));
         }
     }
     Ok(())
@@ -242,22 +311,20 @@ fn limits(l: Layout) -> Result<(), Fault> {
     let limit = Refusal::Limit;
     let length = l.0.len();
     must(length <= 32_768, limit, 32_768, || {
-        format!("the list has {length} bytes; 32,768 is the limit")
+        format!("the list has {length} bytes, but the limit is 32,768")
     })?;
     let calls = l.word(layout::CALLS);
     must(calls <= 256, limit, layout::CALLS, || {
-        format!("{calls} calls; 256 is the limit")
+        format!("the list has {calls} calls, but the limit is 256")
     })?;
     let operations = l.word(layout::OPERATIONS);
     must(operations <= 1024, limit, layout::OPERATIONS, || {
-        format!("{operations} operations; 1,024 is the limit")
+        format!("the list has {operations} operations, but the limit is 1,024")
     })?;
     for (number, row) in l.operations().enumerate() {
         must(row.length <= 4096, limit, row.at + 2, || {
-            format!(
-                "operation {number}: length {}; 4,096 is the limit",
-                row.length
-            )
+            let length = row.length;
+            format!("operation {number}: length is {length}, but the limit is 4,096")
         })?;
     }
     Ok(())
@@ -270,7 +337,7 @@ fn frequency(l: Layout) -> Result<(), Fault> {
         (1..=400_000).contains(&frequency),
         Refusal::Frequency,
         layout::FREQUENCY,
-        || format!("frequency {frequency} is not within 1 to 400,000 Hz"),
+        || format!("frequency is {frequency} Hz, but must be 1 to 400,000 Hz"),
     )
 }
 
@@ -289,9 +356,10 @@ fn timeouts(l: Layout) -> Result<(), Fault> {
             Refusal::Timeout,
             at,
             || {
+                let cycles = micros * mhz;
                 format!(
-                    "{name} timeout {micros} µs is {} cycles at {mhz} MHz; 4,294,967,295 is the limit",
-                    micros * mhz
+                    "{name} timeout is {micros} µs, which is {cycles} cycles at {mhz} MHz, \
+                     but the limit is 4,294,967,295"
                 )
             },
         )?;
@@ -303,10 +371,13 @@ fn timeouts(l: Layout) -> Result<(), Fault> {
 fn addresses(l: Layout) -> Result<(), Fault> {
     for (number, row) in l.calls().enumerate() {
         must(row.width == 7, Refusal::Address, row.at + 1, || {
-            format!("call {number}: the address is ten-bit; only seven-bit ones are accepted")
+            format!("call {number}: address is ten-bit, but must be seven-bit")
         })?;
         must(row.address <= 127, Refusal::Address, row.at + 2, || {
-            format!("call {number}: address {} is above 127", row.address)
+            format!(
+                "call {number}: address is {}, but must be 0 to 127",
+                row.address
+            )
         })?;
     }
     Ok(())
@@ -315,17 +386,15 @@ fn addresses(l: Layout) -> Result<(), Fault> {
 /// Cause 25.
 fn empty_blocking(l: Layout) -> Result<(), Fault> {
     for (number, row) in l.calls().enumerate() {
-        if row.kind == 4 || row.kind == 5 {
-            let operation = l.operation(row.first.into());
-            must(
-                operation.length > 0,
-                Refusal::EmptyBlocking,
-                operation.at + 2,
-                || {
-                    let name = if row.kind == 4 { "write" } else { "read" };
-                    format!("call {number}: a blocking {name} of length 0")
-                },
-            )?;
+        let Some(kind @ (Kind::BlockingWrite | Kind::BlockingRead)) = Kind::from_number(row.kind)
+        else {
+            continue;
+        };
+        for operation in l.operations_of(&row) {
+            let at = operation.at + 2;
+            must(operation.length > 0, Refusal::EmptyBlocking, at, || {
+                format!("call {number}: length is 0, but a {kind} needs at least one byte")
+            })?;
         }
     }
     Ok(())
@@ -341,8 +410,10 @@ fn received(l: Layout, room: usize) -> Result<(), Fault> {
             Refusal::ReceivedBuffer,
             row.at + 2,
             || {
+                let sum = counted(sum, "byte");
                 format!(
-                    "operation {number}: with it the reads have {sum} bytes; the received buffer has {room}"
+                    "operation {number}: the reads up to this one have {sum}, \
+                     but the received buffer has {room}"
                 )
             },
         )?;

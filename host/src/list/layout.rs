@@ -112,6 +112,12 @@ impl<'a> Layout<'a> {
         self.operation_at(start + ROW * number)
     }
 
+    /// The operations of a call.
+    pub fn operations_of(self, row: &CallRow) -> impl Iterator<Item = OperationRow> {
+        let first = usize::from(row.first);
+        (first..first + usize::from(row.count)).map(move |number| self.operation(number))
+    }
+
     /// The bytes of a write, as far as they are there.
     pub fn data(self, row: &OperationRow) -> &'a [u8] {
         let end = self.0.len();

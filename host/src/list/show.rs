@@ -4,7 +4,7 @@ use std::fmt::Write;
 
 use super::Kind;
 use super::check::form;
-use super::layout::{Layout, ROW};
+use super::layout::{CallRow, Layout, OperationRow, ROW};
 
 /// How many data bytes of a write are shown.
 const SHOWN: usize = 16;
@@ -35,17 +35,20 @@ const FIELDS: [&str; 16] = [
 /// The tables are looked for where their counts put them, right or wrong.
 ///
 /// ```
-/// use vandhukril::{BusList, Hertz, Mode, Settings, show};
+/// use vandhukril::{BusList, Hertz, Mode, PollingSettings, show};
 ///
-/// let settings = Settings::new(Hertz(36_000_000), Mode::Standard, Hertz(100_000));
+/// let settings = PollingSettings {
+///     pclk1: Hertz(36_000_000),
+///     mode: Mode::Standard,
+///     frequency: Hertz(100_000),
+/// };
 /// let mut bytes = BusList::new(settings).write(0x50, &[0x2a]).to_bytes()?;
 /// let text = show(&bytes);
 /// assert!(text.contains("\n64: call 0: polling write, address width 7, address 0x50, "));
 /// assert!(text.contains("\n72: operation 0: write, length 1, data offset 0, bytes 2a\n"));
 ///
-/// bytes[44] = 1;
-/// bytes[45] = 1;
-/// assert!(show(&bytes).contains("\n44: start retries: 257 <- start retries 257 are above 255\n"));
+/// bytes[32] = 9;
+/// assert!(show(&bytes).contains("\n32: mode: 9 <- mode is 9, but must be 0 to 2\n"));
 /// # Ok::<(), Box<dyn std::error::Error>>(())
 /// ```
 pub fn show(list: &[u8]) -> String {
@@ -75,38 +78,47 @@ fn lines(l: Layout) -> impl Iterator<Item = (usize, usize, String)> {
         .map(|(number, name)| (4 * number, name))
         .take_while(move |(at, _)| *at < l.0.len())
         .map(move |(at, name)| (at, 4, format!("{name}: {}", l.word(at))));
-    let calls = l.calls().enumerate().map(|(number, row)| {
-        let kind = Kind::from_number(row.kind)
-            .map_or_else(|| format!("kind {}", row.kind), |kind| kind.to_string());
-        let line = format!(
-            "call {number}: {kind}, address width {}, address {:#04x}, first operation {}, operation count {}",
-            row.width, row.address, row.first, row.count
-        );
-        (row.at, ROW, line)
-    });
+    let calls = l
+        .calls()
+        .enumerate()
+        .map(|(number, row)| (row.at, ROW, format!("call {number}: {}", call(&row))));
     let operations = l.operations().enumerate().map(move |(number, row)| {
-        let direction = match row.direction {
-            0 => "write".to_string(),
-            1 => "read".to_string(),
-            other => format!("direction {other}"),
-        };
-        let mut line = format!(
-            "operation {number}: {direction}, length {}, data offset {}",
-            row.length, row.offset
-        );
-        if row.direction == 0 {
-            line.push_str(", bytes");
-            let data = l.data(&row);
-            for byte in data.iter().take(SHOWN) {
-                let _ = write!(line, " {byte:02x}");
-            }
-            if data.len() > SHOWN {
-                line.push_str(" ..");
-            }
-        }
+        let line = format!("operation {number}: {}", operation(l, &row));
         (row.at, ROW, line)
     });
     header.chain(calls).chain(operations)
+}
+
+fn call(row: &CallRow) -> String {
+    let kind = Kind::from_number(row.kind)
+        .map_or_else(|| format!("kind {}", row.kind), |kind| kind.to_string());
+    format!(
+        "{kind}, address width {}, address {:#04x}, first operation {}, operation count {}",
+        row.width, row.address, row.first, row.count
+    )
+}
+
+fn operation(l: Layout, row: &OperationRow) -> String {
+    let direction = match row.direction {
+        0 => "write".to_string(),
+        1 => "read".to_string(),
+        other => format!("direction {other}"),
+    };
+    let mut line = format!(
+        "{direction}, length {}, data offset {}",
+        row.length, row.offset
+    );
+    if row.direction == 0 {
+        line.push_str(", bytes");
+        let data = l.data(row);
+        for byte in data.iter().take(SHOWN) {
+            let _ = write!(line, " {byte:02x}");
+        }
+        if data.len() > SHOWN {
+            line.push_str(" ..");
+        }
+    }
+    line
 }
 
 #[cfg(test)]
@@ -117,7 +129,7 @@ mod tests {
     fn no_bytes_are_shown_as_missing() {
         assert_eq!(
             show(&[]),
-            "0: <- the list ends here; its header has 64 bytes\n"
+            "0: <- the list ends here, but its header takes 64 bytes\n"
         );
     }
 
@@ -126,7 +138,7 @@ mod tests {
         let text = show(&[2, 0, 0, 0, 64, 0]);
         assert_eq!(
             text,
-            "0: calls: 2\n4: call offset: 64 <- the list ends here; its header has 64 bytes\n"
+            "0: calls: 2\n4: call offset: 64 <- the list ends here, but its header takes 64 bytes\n"
         );
     }
 
@@ -134,7 +146,9 @@ mod tests {
     fn each_line_of_the_header_has_its_place() {
         let text = show(&[0; 64]);
         assert_eq!(text.lines().count(), FIELDS.len());
-        assert!(text.contains("\n4: call offset: 0 <- call offset 0; by the counts it is 64\n"));
+        assert!(text.contains(
+            "\n4: call offset: 0 <- call offset is 0, but must be 64 (the length of the header)\n"
+        ));
         assert!(text.contains("\n36: frequency, Hz: 0\n"));
     }
 }

@@ -127,14 +127,17 @@ pub fn refusal(list: &[u8], received_length: usize) -> Option<Refusal> {
     }
 }
 
+/// Settings with which every call does what it says.
 pub fn settings() -> Settings {
     Settings {
+        pclk1: Hertz(36_000_000),
         sysclk: Hertz(72_000_000),
+        mode: Mode::Standard,
+        frequency: Hertz(100_000),
         start_timeout: Micros(1000),
         start_retries: 2,
         address_timeout: Micros(1000),
         data_timeout: Micros(1000),
-        ..Settings::new(Hertz(36_000_000), Mode::Standard, Hertz(100_000))
     }
 }
 
