@@ -37,7 +37,7 @@ fn with_all_below<'a>(name: &'a str, text: &'a str) -> Vec<&'a str> {
     all
 }
 
-fn libraries<'a>(name: &str, text: &'a str) -> impl Iterator<Item = &'a str> {
+fn libraries<'a>(name: &'a str, text: &'a str) -> impl Iterator<Item = &'a str> {
     text.lines()
         .filter_map(|line| line.split('#').next()?.split_once(':'))
         .filter(move |(head, _)| head.trim() == name)

@@ -21,7 +21,7 @@ engine-of kind = cond (leb kind 3) polling blocking
 unfoldable pub early : ℕ → Bool
 early kind = eqb kind 1 || eqb kind 2
 
--- the operations of a call, after this one
+-- the operations of a call that are left, after an operation of direction `previous` or none
 unfoldable pub operations-steps : Setup → Engine → Bool → ℕ → Previous → List Operation → List Step
 operations-steps s polling early a previous os = polling-steps early a previous os
 operations-steps s blocking early a previous os = blocking-steps s a previous os

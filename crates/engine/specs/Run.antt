@@ -76,7 +76,7 @@ pub record HostRunsTo (list readings rx lg rx′ lg′ array : List ℕ) : Type 
   pub runs : RunsTo list readings rx lg rx′ lg′ counts
   pub told : array ≡ in-order counts
 
--- both of a function's parameters, as its contract has them: the slices at the call (`entry`) and at the return (`exit`)
+-- both, said of a function's own parameters: a slice as it is at the call (`entry`) and at the return (`exit`)
 abbrev pub Runs : (list readings rx log : Slice) → Counts → Type 0
 Runs list readings rx log c = RunsTo (now (list .entry)) (now (readings .entry)) (now (rx .entry)) (now (log .entry)) (now (rx .exit)) (now (log .exit)) c
 

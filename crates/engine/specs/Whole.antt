@@ -36,7 +36,7 @@ unfoldable pub operation-steps : Setup → Engine → Bool → ℕ → Previous 
 operation-steps s polling early a previous last o = polling-operation early a previous last o
 operation-steps s blocking early a previous last o = blocking-operation s a o
 
--- the same of the call at a table's entry, and where that is a polling one
+-- one operation of the call that an entry of the call table has; and of a polling one
 abbrev pub entry-steps : Setup → CallEntry → Previous → Bool → Operation → List Step
 entry-steps s c previous last o = operation-steps s (engine-of (c .kind)) (early (c .kind)) (c .address) previous last o
 

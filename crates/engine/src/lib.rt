@@ -202,7 +202,7 @@ fn direction(o: OperationEntry) -> Previous
     Previous::Read
 }
 
-// The operation before, for the one after o. A blocking call passes over an empty one.
+// The direction that the operation after o finds before it. A blocking call passes over an empty one.
 fn moved(list: &[u8], call: CallEntry, o: OperationEntry, previous: Previous) -> Previous
     ensures { λ r. ⌜ r ≡ moved (engine-of (call .kind)) previous (operation-of (now (list .entry)) o) ⌝ }
 {
