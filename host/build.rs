@@ -20,7 +20,6 @@ fn main() {
     println!("cargo::rerun-if-env-changed=ENGINE_LIBRARY");
     match library_folder() {
         Ok(folder) => {
-            println!("cargo::rerun-if-changed={}", folder.join(LIBRARY).display());
             println!("cargo::rustc-link-search=native={}", folder.display());
             println!("cargo::rustc-link-lib=static=engine");
         }
@@ -36,14 +35,14 @@ fn main() {
 fn library_folder() -> Result<PathBuf, String> {
     check_target()?;
     let package = PathBuf::from(variable("CARGO_MANIFEST_DIR")?);
-    match env::var_os("ENGINE_LIBRARY").filter(|folder| !folder.is_empty()) {
-        // `join` takes an absolute folder as it is.
-        Some(folder) => named_folder(package.join(folder)),
-        None => repository_folder(package.parent().ok_or(
-            "This package has no folder above it, which would be the repository's root.\n\
-             Set ENGINE_LIBRARY to a folder that has libengine.a.",
-        )?),
-    }
+    // Relative paths start at the package, for this script and for cargo. So a copy of the repository that has
+    // `target/` in it looks at its own crates.
+    let folder = match env::var_os("ENGINE_LIBRARY").filter(|folder| !folder.is_empty()) {
+        Some(folder) => named_folder(folder.into())?,
+        None => repository_folder(Path::new(".."))?,
+    };
+    // `join` takes an absolute folder as it is.
+    Ok(package.join(folder))
 }
 
 /// The library is machine code for one kind of machine. Linking it elsewhere would fail with a message that says less.
@@ -63,7 +62,9 @@ fn check_target() -> Result<(), String> {
 
 /// A library that is named is taken as it is.
 fn named_folder(folder: PathBuf) -> Result<PathBuf, String> {
-    if folder.join(LIBRARY).is_file() {
+    let library = folder.join(LIBRARY);
+    println!("cargo::rerun-if-changed={}", library.display());
+    if library.is_file() {
         return Ok(folder);
     }
     Err(format!(
@@ -77,6 +78,7 @@ fn named_folder(folder: PathBuf) -> Result<PathBuf, String> {
 fn repository_folder(root: &Path) -> Result<PathBuf, String> {
     let folder = root.join("target").join("staticlib");
     let library = folder.join(LIBRARY);
+    println!("cargo::rerun-if-changed={}", library.display());
     let sources = age::sources(root).map_err(with_advice)?;
     for source in &sources {
         println!("cargo::rerun-if-changed={}", source.display());

@@ -23,7 +23,8 @@ fn main() {
 
 fn library_folder() -> Result<PathBuf, String> {
     let package = PathBuf::from(env::var("CARGO_MANIFEST_DIR").unwrap());
-    let repository = package.ancestors().nth(2).unwrap();
+    // From the package, where this script runs: a copy of the repository then looks at its own crates.
+    let repository = Path::new("../..");
     let named = env::var_os("ENGINE_LIBRARY").filter(|folder| !folder.is_empty());
     let folder = repository.join(named.as_deref().unwrap_or("target/staticlib".as_ref()));
     let library = folder.join("libengine.a");
@@ -37,7 +38,7 @@ fn library_folder() -> Result<PathBuf, String> {
     if named.is_none() {
         check_age(repository, &library)?;
     }
-    Ok(folder)
+    Ok(package.join(folder))
 }
 
 fn check_age(repository: &Path, library: &Path) -> Result<(), String> {
