@@ -30,13 +30,13 @@ extern "C" {
 /* How a run ended. From 20 on the list was refused before any access; the first cause that applies is the answer. */
 enum vandhukril_answer {
     VANDHUKRIL_WELL = 0,                    /* every call ended well */
-    VANDHUKRIL_OVERRUN = 1,                 /* OVR was set, or a polling read had no bytes to read */
+    VANDHUKRIL_OVERRUN = 1,                 /* OVR was set, or a polling call ends in a read of length 0 */
     VANDHUKRIL_NO_ACKNOWLEDGE_ADDRESS = 2,  /* AF: the address; in a polling write also before a byte is sent */
     VANDHUKRIL_NO_ACKNOWLEDGE_DATA = 3,     /* AF: a data byte */
     VANDHUKRIL_NO_ACKNOWLEDGE_UNKNOWN = 4,  /* AF before an address was sent */
-    VANDHUKRIL_TIMEOUT = 5,                 /* TIMEOUT was set, or a blocking wait reached its limit */
+    VANDHUKRIL_TIMEOUT = 5,                 /* TIMEOUT was set in a polling call, or a blocking wait reached its limit */
     VANDHUKRIL_BUS = 6,                     /* BERR was set in a blocking call */
-    VANDHUKRIL_CRC = 7,                     /* PECERR was set */
+    VANDHUKRIL_CRC = 7,                     /* PECERR was set in a polling call */
     VANDHUKRIL_ARBITRATION_LOSS = 8,        /* ARLO was set */
     VANDHUKRIL_NO_READINGS = 9,             /* the next access is a read and every reading is used */
     VANDHUKRIL_NO_RECORD = 10,              /* fewer than two record words remain for the next access */

@@ -27,15 +27,15 @@ pub struct Error {
 /// ```
 #[derive(Clone, Copy, Debug, PartialEq, Eq, Hash)]
 pub enum Cause {
-    /// 1: OVR was set, or a polling read had no bytes to read.
+    /// 1: OVR was set, or a polling call ends in a read of length 0.
     Overrun,
     /// 2 to 4: AF was set; its source says what had not been acknowledged.
     NoAcknowledge(NoAcknowledge),
-    /// 5: TIMEOUT was set, or a blocking wait reached its limit.
+    /// 5: TIMEOUT was set in a polling call, or a blocking wait reached its limit.
     Timeout,
     /// 6: BERR was set in a blocking call.
     Bus,
-    /// 7: PECERR was set.
+    /// 7: PECERR was set in a polling call.
     Crc,
     /// 8: ARLO was set.
     ArbitrationLoss,
@@ -165,7 +165,8 @@ impl Cause {
                  pull-ups, then run the list again."
             }
             Cause::Crc => {
-                "PECERR was set, for a checksum that is wrong. Check the wiring, then run the list again."
+                "PECERR was set, though the engine never switches packet error checking on. See what \
+                 else writes to CR1."
             }
             Cause::ArbitrationLoss => {
                 "Another master took the bus. Run the list again once the bus is free."

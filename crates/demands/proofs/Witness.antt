@@ -1,5 +1,5 @@
 -- What demand 3 supposes is met: unlike lists of bytes with equal reduced calls, and runs that end well.
--- And it is needed: lists that break one supposition alone, of which the claim is false.
+-- And that no call may be idle, and none may end in an empty read, is needed: lists that break this alone, of which the claim is false.
 -- Assumes nothing.
 use Prim.Native.Nat.{ℕ}
 use native.Mathlib.Omega.{arith}
@@ -56,12 +56,12 @@ one-read = call-to 2 (write (1 ∷ []) ∷ read 2 ∷ [])
 abbrev two-reads : Call
 two-reads = call-to 3 (write (1 ∷ []) ∷ read 1 ∷ read 1 ∷ [])
 
--- a read of length 0, and a transaction of one
+-- a transaction that reads one byte and then none, and a read of one byte
 abbrev empty-read : Call
-empty-read = call-to 1 (read 0 ∷ [])
+empty-read = call-to 3 (read 1 ∷ read 0 ∷ [])
 
-abbrev empty-transaction : Call
-empty-transaction = call-to 3 (read 0 ∷ [])
+abbrev full-read : Call
+full-read = call-to 1 (read 1 ∷ [])
 
 -- the two idle calls: a transaction without operations, and a blocking write_read with both halves empty
 abbrev no-operations : Call
@@ -129,12 +129,12 @@ pub record NotTold (l m : List ℕ) (readings : List ℕ) : Type 0 where
   pub one-record : record-of (flat (run l readings 0 100 .log)) ≡ record-of (flat (run m readings 0 100 .log))
   pub unlike-calls : reduced-calls l ≡ reduced-calls m → ⊥
 
--- two lists that `same-run` would be about if no call of theirs were the exception: equal reduced calls, and runs that differ
-pub record NotSame (l m : List ℕ) (readings : List ℕ) : Type 0 where
-  pub alike : Alike l m 0
+-- two lists that `same-run` would be about if no call of the first ended in an empty read: equal reduced calls, and runs that differ
+pub record NotSame (l m : List ℕ) (rx : ℕ) (readings : List ℕ) : Type 0 where
+  pub alike : Alike l m rx
   pub exception : any polls-empty-read (calls-of l) ≡ true
-  pub exception′ : any polls-empty-read (calls-of m) ≡ true
-  pub unlike-runs : SameRun (run l readings 0 100) (run m readings 0 100) → ⊥
+  pub full′ : any polls-empty-read (calls-of m) ≡ false
+  pub unlike-runs : SameRun (run l readings rx 100) (run m readings rx 100) → ⊥
 
 pub record Witness : Type 0 where
   -- one pair for each engine
@@ -156,7 +156,7 @@ pub record Witness : Type 0 where
   pub idle-transaction : NotTold (list-of (one-write ∷ no-operations ∷ [])) (alone one-write) (0 ∷ polled)
   pub idle-write-read : NotTold (list-of (one-write ∷ empty-halves ∷ [])) (alone one-write) (0 ∷ polled)
   -- why no polling call may end in an empty read
-  pub empty-last-read : NotSame (alone empty-read) (alone empty-transaction) (0 ∷ polled)
+  pub empty-last-read : NotSame (alone empty-read) (alone full-read) 1 (0 ∷ polled)
 
 -- lists whose first calls are of other kinds are unlike
 alike : {l m : List ℕ} {rx : ℕ} → (byte l 64 ≡ byte m 64 → ⊥) → settings-words l ≡ settings-words m → any idle (calls-of l) ≡ false → any idle (calls-of m) ≡ false
@@ -232,7 +232,7 @@ witness =
           record {
             alike = alike (omega arith) refl refl refl refl refl refl;
             exception = refl;
-            exception′ = refl;
+            full′ = refl;
             unlike-runs = λ r. let n = ap (λ c. c .made) (r .counts) in omega arith;
           };
     }
