@@ -18,7 +18,7 @@ use Rattle.buslist.specs.declared.OperationEntry.{OperationEntry}
 use Rattle.buslist.specs.Bytes.{word}
 use Rattle.buslist.specs.Table.{call-count, call-offset, operation-count, operation-offset, data-bytes, data-offset, settings-of, call-at, operation-at, entries, calls, operations, operations-of}
 use Rattle.buslist.specs.Form.{header-right, written, operation-right, operations-right, kind-right, call-right, calls-right, of-the-form}
-use Rattle.buslist.specs.Refusal.{any, longest-operation, over-limit, timeout-out, address-out, empty-blocking, all-received, causes, first-cause, refusal}
+use Rattle.buslist.specs.Refusal.{any, longest-operation, over-limit, timeout-out, address-out, empty-blocking, all-received, write-after-read, causes, first-cause, refusal}
 use Rattle.buslist.specs.Meaning.{write, read, operation-of}
 
 -- tests as facts: for `simp tests at e`
@@ -34,11 +34,11 @@ eqb-not-iff a b = (eqb-false a b, ne-eqb a b)
 leb-not-iff : (a b : ℕ) → (leb a b ≡ false) ↔ (b < a)
 leb-not-iff a b = (leb-false a b, lt-leb a b)
 
-or-iff : (a b : Bool) → ((a || b) ≡ true) ↔ ((a ≡ true) ⊎ (b ≡ true))
+pub or-iff : (a b : Bool) → ((a || b) ≡ true) ↔ ((a ≡ true) ⊎ (b ≡ true))
 or-iff true b = (λ e. inl refl, λ e. refl)
 or-iff false b = (λ e. inr e, ⊎-elim (λ e. cc) (λ e. e))
 
-or-not-iff : (a b : Bool) → ((a || b) ≡ false) ↔ ((a ≡ false) × (b ≡ false))
+pub or-not-iff : (a b : Bool) → ((a || b) ≡ false) ↔ ((a ≡ false) × (b ≡ false))
 or-not-iff true b = (λ e. (e, cc), λ e. e .0)
 or-not-iff false b = (λ e. (refl, e), λ e. e .1)
 
@@ -53,6 +53,7 @@ pub record NoCause (l : List ℕ) (rx : ℕ) : Type 0 where
   pub addresses : any address-out (calls l) ≡ false
   pub blocking : any (empty-blocking l) (calls l) ≡ false
   pub room : all-received (operations l) ≤ rx
+  pub combined : any (write-after-read l) (calls l) ≡ false
 
 -- a cause that is passed does not apply
 passed : (b : Bool) (n rest : ℕ) → cond b n rest ≡ 0 → 0 < n → (b ≡ false) × (rest ≡ 0)
@@ -70,6 +71,7 @@ accepted l rx ok =
     let e5 = passed _ _ _ (e4 .1) (lit< tt) in
     let e6 = passed _ _ _ (e5 .1) (lit< tt) in
     let e7 = passed _ _ _ (e6 .1) (lit< tt) in
+    let e8 = passed _ _ _ (e7 .1) (lit< tt) in
     record {
       form = not-false _ (e1 .0);
       limits = e2 .0;
@@ -78,6 +80,7 @@ accepted l rx ok =
       addresses = e5 .0;
       blocking = e6 .0;
       room = ltb-false _ _ (e7 .0);
+      combined = e8 .0;
     }
 
 -- entry k of a table is one of its entries
@@ -140,12 +143,12 @@ module _ (sum : ℕ) (o : OperationEntry) where
       let f = simp (and-eq-true-iff, or-iff) at e in
       ⊎-elim (λ w. inl ((simp tests at w) .0)) (λ r. inr ((simp tests at r) .0)) (f .1)
 
-  write-offset : operation-right sum o ≡ true → o .direction ≡ 0 → o .offset ≡ sum
+  pub write-offset : operation-right sum o ≡ true → o .direction ≡ 0 → o .offset ≡ sum
   unfolding operation-right
   write-offset e d = (simp (d, or-false, tests) at e) .1 .1
 
 -- a write has its length of the data
-write-length : (o : OperationEntry) → o .direction ≡ 0 → written o ≡ o .length
+pub write-length : (o : OperationEntry) → o .direction ≡ 0 → written o ≡ o .length
 unfolding written
 write-length o d = rw d
 
@@ -162,13 +165,13 @@ right-call l sum c e =
     let f = simp and-eq-true-iff at e in
     record { width = f .0 .0; first = eqb-true _ _ (f .0 .1); kind = f .1 }
 
--- there is no kind above 6
-kind-most : (kind : ℕ) (os : List OperationEntry) → kind-right kind os ≡ true → kind ≤ 6
+-- there is no kind above 7
+kind-most : (kind : ℕ) (os : List OperationEntry) → kind-right kind os ≡ true → kind ≤ 7
 unfolding kind-right
 kind-most kind os e =
-    let other : 6 < kind → (k : ℕ) → leb k 6 ≡ true → eqb kind k ≡ false =
-    λ h k q. ne-eqb kind k (λ p. omega (arith, leb-true k 6 q)) in
-    let none : 6 < kind → ⊥ = λ h. false≢true (simp (other h) at e) in
+    let other : 7 < kind → (k : ℕ) → leb k 7 ≡ true → eqb kind k ≡ false =
+    λ h k q. ne-eqb kind k (λ p. omega (arith, leb-true k 7 q)) in
+    let none : 7 < kind → ⊥ = λ h. false≢true (simp (other h) at e) in
     omega arith
 
 -- m + n entries: m of them, and n
@@ -231,6 +234,10 @@ module _ (l : List ℕ) (rx : ℕ) (ok : refusal l rx ≡ 0) where
   unfolding of-the-form
   parts = simp and-eq-true-iff at (accepted l rx ok .form)
 
+  -- the operations are right
+  pub right-operations : operations-right (data-bytes l) 0 (operations l) ≡ true
+  right-operations = parts .0 .1
+
   -- the header's offsets and ranges
   pub header : Header l
   unfolding header-right
@@ -270,7 +277,7 @@ module _ (l : List ℕ) (rx : ℕ) (ok : refusal l rx ≡ 0) where
     operation-placed : Placed operation-right written (data-bytes l) (operation-at l j)
     unfolding operations-right
     operation-placed =
-        placed _ _ _ (operations-right (data-bytes l)) (λ sum. refl) (λ sum o os. refl) 0 (operations l) (parts .0 .1) (entry-in _ h)
+        placed _ _ _ (operations-right (data-bytes l)) (λ sum. refl) (λ sum o os. refl) 0 (operations l) right-operations (entry-in _ h)
 
     -- it is a write or a read
     pub operation-direction : (operation-at l j .direction ≡ 0) ⊎ (operation-at l j .direction ≡ 1)
@@ -324,8 +331,8 @@ module _ (l : List ℕ) (rx : ℕ) (ok : refusal l rx ≡ 0) where
     pub call-operations : kind-right (call-at l k .kind) (operations-of l (call-at l k)) ≡ true
     call-operations = call-stands .kind
 
-    -- its kind is one of the seven
-    pub call-kind : call-at l k .kind ≤ 6
+    -- its kind is one of the eight
+    pub call-kind : call-at l k .kind ≤ 7
     call-kind = kind-most _ _ call-operations
 
 -- what an operation means: a write is its bytes, a read its length

@@ -1,4 +1,5 @@
 pub mod Walk
 pub mod Accept
+pub mod Joining
 pub mod Parts
 pub mod Encode

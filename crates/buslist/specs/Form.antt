@@ -51,13 +51,13 @@ has-directions [] (o ∷ os) = false
 has-directions (d ∷ ds) [] = false
 has-directions (d ∷ ds) (o ∷ os) = eqb (o .direction) d && has-directions ds os
 
--- the kinds and their operations: kinds 0 and 4 have one write, 1 and 5 one read, 2 and 6 a write then a read, 3 any; there is no other kind
+-- the kinds and their operations: kinds 0 and 4 have one write, 1 and 5 one read, 2 and 6 a write then a read, 3 and 7 any; there is no other kind
 unfoldable pub kind-right : ℕ → List OperationEntry → Bool
 kind-right kind os =
     (eqb kind 0 || eqb kind 4) && has-directions (0 ∷ []) os
     || (eqb kind 1 || eqb kind 5) && has-directions (1 ∷ []) os
     || (eqb kind 2 || eqb kind 6) && has-directions (0 ∷ 1 ∷ []) os
-    || eqb kind 3
+    || (eqb kind 3 || eqb kind 7)
 
 -- a call after calls of `sum` operations: address width 7 or 10; first operation `sum`; the operations of its kind
 unfoldable pub call-right : List ℕ → ℕ → CallEntry → Bool

@@ -1,6 +1,8 @@
 pub mod Bytes
 pub mod Table
 pub mod Form
-pub mod Refusal
 pub mod Meaning
+pub mod Combined
+pub mod Refusal
 pub mod Encode
+pub mod Next

@@ -1,7 +1,7 @@
 -- What an accepted list means: its settings (`settings-of`) and its calls.
-use Prim.Native.Nat.{ℕ, _+_}
-use mathlib.Core.List.{List, map}
-use mathlib.Core.Bool.{cond}
+use Prim.Native.Nat.{ℕ, zero, suc, _+_}
+use mathlib.Core.List.{List, [], _∷_, map}
+use mathlib.Core.Bool.{Bool, true, false, cond}
 use lib.ListN.{take, drop}
 use Rattle.buslist.specs.declared.CallEntry.{CallEntry}
 use Rattle.buslist.specs.declared.OperationEntry.{OperationEntry}
@@ -13,7 +13,14 @@ pub data Operation : Type 0 where
   write : List ℕ → Operation
   read : ℕ → Operation
 
--- a call: its kind (polling 0 write, 1 read, 2 write_read, 3 transaction; blocking 4 write, 5 read, 6 write_read), address and operations
+-- an operation without bytes
+abbrev pub empty : Operation → Bool
+empty (write []) = true
+empty (write (b ∷ bs)) = false
+empty (read zero) = true
+empty (read (suc n)) = false
+
+-- a call: its kind (polling 0 write, 1 read, 2 write_read, 3 transaction; blocking 4 write, 5 read, 6 write_read, 7 transaction), address and operations
 pub record Call : Type 0 where
   pub kind : ℕ
   pub address : ℕ

@@ -1,4 +1,4 @@
--- The causes that refuse a list before any access (document 01, "How a run can end"), in rising order.
+-- The causes that refuse a list before any access (document 01, "How a run can end", and document 02), in rising order.
 use Prim.Native.Nat.{ℕ, _+_}
 use mathlib.Core.List.{List, [], _∷_}
 use mathlib.Core.Bool.{Bool, false, not, cond, _&&_, _||_}
@@ -13,6 +13,8 @@ use Rattle.buslist.specs.declared.CallEntry.{CallEntry}
 use Rattle.buslist.specs.declared.OperationEntry.{OperationEntry}
 use Rattle.buslist.specs.Table.{call-count, operation-count, settings-of, calls, operations, operation-at}
 use Rattle.buslist.specs.Form.{read-direction, of-the-form}
+use Rattle.buslist.specs.Meaning.{call-of}
+use Rattle.buslist.specs.Combined.{combined, read-then-write}
 
 -- one of them passes the test
 unfoldable pub any : {A : Type 0} → (A → Bool) → List A → Bool
@@ -59,6 +61,10 @@ unfoldable pub all-received : List OperationEntry → ℕ
 all-received [] = 0
 all-received (o ∷ os) = received o + all-received os
 
+-- 27: a kind 7 call in which a read is followed by a write after joining
+abbrev pub write-after-read : List ℕ → CallEntry → Bool
+write-after-read l c = eqb (c .kind) 7 && read-then-write (combined (call-of l c .operations))
+
 -- a cause: its number, and whether it applies
 pub record Cause : Type 0 where
   pub number : ℕ
@@ -77,6 +83,7 @@ causes l rx =
     ∷ cause 24 (any address-out (calls l))
     ∷ cause 25 (any (empty-blocking l) (calls l))
     ∷ cause 26 (ltb rx (all-received (operations l)))
+    ∷ cause 27 (any (write-after-read l) (calls l))
     ∷ []
 
 -- the number of the first that applies, or 0

@@ -3,13 +3,15 @@ use units::Hertz;
 use units::Micros;
 use units::Settings;
 ghost use mathlib.Core.Path.{_≡_};
-ghost use Prim.Native.Nat.{min, _+_, _≤_, _<_, _^_};
+ghost use Prim.Native.Nat.{ℕ, min, _+_, _≤_, _<_, _^_};
 ghost use lib.ListN.{length};
 ghost use Rattle.buslist.specs.Bytes.{byte, half, word};
 ghost use Rattle.buslist.specs.Table.{call-count, call-offset, operation-count, operation-offset, settings-of, call-at, operation-at, operations-of, calls, operations, data-bytes};
 ghost use Rattle.buslist.specs.Form.{header-right, written, operation-right, operations-right, kind-right, call-right, calls-right, of-the-form};
-ghost use Rattle.buslist.specs.Meaning.{bytes-of};
-ghost use Rattle.buslist.specs.Refusal.{any, too-long, over-limit, too-many-cycles, timeout-out, address-out, empty-blocking, received, all-received, refusal};
+ghost use Rattle.buslist.specs.Meaning.{empty, bytes-of, operation-of, call-of};
+ghost use Rattle.buslist.specs.Combined.{combined, read-then-write};
+ghost use Rattle.buslist.specs.Refusal.{any, too-long, over-limit, too-many-cycles, timeout-out, address-out, empty-blocking, received, all-received, write-after-read, refusal};
+ghost use Rattle.buslist.specs.Next.{joins, JoinsAt};
 
 // A call as its 8 bytes have it.
 pub struct CallEntry {
@@ -20,16 +22,22 @@ pub struct CallEntry {
     pub count: u16,
 }
 
-// An operation as its 8 bytes have it.
+// An operation as its 8 bytes have it. The length of operations that are joined may need more than the 16 bits there.
 pub struct OperationEntry {
     pub direction: u8,
     pub reserved: u8,
-    pub length: u16,
+    pub length: u32,
     pub offset: u32,
 }
 
+// Operations joined as one, and the number of the operation after them.
+pub struct Joined {
+    pub operation: OperationEntry,
+    pub next: u32,
+}
+
 // The most bytes that one operation may have.
-const LONGEST_OPERATION: u16 = 4096;
+const LONGEST_OPERATION: u32 = 4096;
 
 // The byte at i, 0 past the end.
 fn byte_at(list: &[u8], i: usize) -> u8
@@ -159,7 +167,7 @@ pub fn operation_at(list: &[u8], start: u32, j: u32) -> OperationEntry
     OperationEntry {
         direction: (w.0 % 256) as u8,
         reserved: (w.0 / 256 % 256) as u8,
-        length: (w.0 / 65536) as u16,
+        length: w.0 / 65536,
         offset: w.1,
     }
 }
@@ -179,6 +187,49 @@ pub fn bytes_of(list: &[u8], o: OperationEntry) -> &[u8]
     let start = least(at, list.len());
     let end = least(at + o.length as usize, list.len());
     &list[start..end]
+}
+
+// Whether an operation has no bytes.
+pub fn is_empty(list: &[u8], o: OperationEntry) -> bool
+    ensures { λ r. ⌜ r ≡ empty (operation-of (now (list .entry)) o) ⌝ }
+{
+    if o.direction == 0 {
+        return bytes_of(list, o).len() == 0;
+    }
+    o.length == 0
+}
+
+// Whether o is joined with operations of the first one's direction: it has that direction, or no bytes.
+fn joins(list: &[u8], first: OperationEntry, o: OperationEntry) -> bool
+    ensures { λ r. ⌜ r ≡ joins (now (list .entry)) first o ⌝ }
+{
+    (o.direction == first.direction) | is_empty(list, o)
+}
+
+// The operations from j on joined, up to the first that is not, or to the end. The bytes of joined writes follow each
+// other in the list, so nothing is copied.
+pub fn joined_at(list: &[u8], start: u32, j: u32, end: u32) -> Joined
+    requires { ⌜ (start ≡ operation-offset (now list)) × (j < end) × (end ≤ operation-count (now list)) × ((rx : ℕ) × (refusal (now list) rx ≡ 0)) ⌝ }
+    ensures { λ r. ⌜ JoinsAt (now (list .entry)) j end r ⌝ }
+{
+    let first = operation_at(list, start, j);
+    let mut length = first.length;
+    let mut next = j + 1;
+    while next < end {
+        let o = operation_at(list, start, next);
+        if !joins(list, first, o) {
+            break;
+        }
+        length += o.length;
+        next += 1;
+    }
+    let operation = OperationEntry {
+        direction: first.direction,
+        reserved: first.reserved,
+        length,
+        offset: first.offset,
+    };
+    Joined { operation, next }
 }
 
 fn header_right(list: &[u8]) -> bool
@@ -242,7 +293,7 @@ fn kind_right(list: &[u8], start: u32, c: CallEntry) -> bool
     ((c.kind == 0) | (c.kind == 4)) & one_write
         | ((c.kind == 1) | (c.kind == 5)) & one_read
         | ((c.kind == 2) | (c.kind == 6)) & write_then_read
-        | (c.kind == 3)
+        | ((c.kind == 3) | (c.kind == 7))
 }
 
 fn call_right(list: &[u8], start: u32, sum: u64, c: CallEntry) -> bool
@@ -396,6 +447,54 @@ fn all_received(list: &[u8]) -> u64
     sum
 }
 
+// Whether a read is followed by a write in the combined operations of a call: a write with bytes after a read with bytes.
+fn read_then_write(list: &[u8], start: u32, c: CallEntry) -> bool
+    requires { ⌜ start ≡ operation-offset (now list) ⌝ }
+    ensures { λ r. ⌜ r ≡ read-then-write (combined (call-of (now (list .entry)) c .operations)) ⌝ }
+{
+    let end = c.first as u32 + c.count as u32;
+    let mut j = c.first as u32;
+    let mut read = false;
+    while j < end {
+        let o = operation_at(list, start, j);
+        let full = !is_empty(list, o);
+        let write = o.direction == 0;
+        if full & write & read {
+            return true;
+        }
+        read = read | full & !write;
+        j += 1;
+    }
+    false
+}
+
+fn write_after_read(list: &[u8], start: u32, c: CallEntry) -> bool
+    requires { ⌜ start ≡ operation-offset (now list) ⌝ }
+    ensures { λ r. ⌜ r ≡ write-after-read (now (list .entry)) c ⌝ }
+{
+    if c.kind != 7 {
+        return false;
+    }
+    read_then_write(list, start, c)
+}
+
+// Cause 27.
+fn any_write_after_read(list: &[u8]) -> bool
+    ensures { λ r. ⌜ r ≡ any (write-after-read (now (list .entry))) (calls (now (list .entry))) ⌝ }
+{
+    let n = call_count(list);
+    let call_start = call_offset(list);
+    let operation_start = operation_offset(list);
+    let mut k = 0;
+    while k < n {
+        if write_after_read(list, operation_start, call_at(list, call_start, k)) {
+            return true;
+        }
+        k += 1;
+    }
+    false
+}
+
 // The first cause that refuses the list with a received buffer of rx_len bytes, or 0.
 pub fn refusal(list: &[u8], rx_len: usize) -> u32
     ensures { λ r. ⌜ r ≡ refusal (now (list .entry)) «rx_len» ⌝ }
@@ -421,6 +520,9 @@ pub fn refusal(list: &[u8], rx_len: usize) -> u32
     }
     if (rx_len as u64) < all_received(list) {
         return 26;
+    }
+    if any_write_after_read(list) {
+        return 27;
     }
     0
 }

@@ -44,7 +44,7 @@ first-is-cause (more {a = c} {rest = cs} k ks) h = go (c .applies) (first-is-cau
 
 refusal-is-cause : (l : List ℕ) (rx : ℕ) → (refusal l rx ≡ 0 → ⊥) → is-cause (refusal l rx) ≡ true
 unfolding refusal causes
-refusal-is-cause l rx = first-is-cause (more refl (more refl (more refl (more refl (more refl (more refl (more refl none)))))))
+refusal-is-cause l rx = first-is-cause (more refl (more refl (more refl (more refl (more refl (more refl (more refl (more refl none))))))))
 
 -- a log that these readings answer
 pub record Taken (es : List Entry) (rs : List ℕ) : Type 0 where

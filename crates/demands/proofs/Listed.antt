@@ -10,13 +10,14 @@ use lib.ListN.{length, length-take, length-drop}
 use lib.Dec.{eqb}
 use Rattle.buslist.specs.Table.{call-count, operation-count, call-at, operation-at, entries}
 use Rattle.buslist.specs.Form.{has-directions, kind-right}
-use Rattle.buslist.specs.Refusal.{any, empty-blocking, refusal}
+use Rattle.buslist.specs.Refusal.{any, empty-blocking, write-after-read, refusal}
 use Rattle.buslist.specs.Meaning.{write, read, Call, operation-of, calls-of}
+use Rattle.buslist.specs.Combined.{combined, read-then-write}
 use Rattle.buslist.proofs.Walk.{one-direction, two-directions}
 use Rattle.buslist.proofs.Accept.{accepted, entry-fails, write-within, call-within, call-operations, call-kind, operation-write, operation-read}
 use Rattle.engine.specs.Calls.{Engine, polling, blocking, engine-of}
 use Rattle.demands.specs.Compare.{polls-empty-read}
-use Rattle.demands.proofs.Shape.{All, none, more, Fails, fails, Shaped, polling-write, polling-read, polling-write-read, transaction, blocking-write, blocking-read, blocking-write-read, FullIn, Sound}
+use Rattle.demands.proofs.Shape.{All, none, more, Fails, fails, Shaped, polling-write, polling-read, polling-write-read, transaction, blocking-write, blocking-read, blocking-write-read, blocking-transaction, FullIn, Sound}
 use Rattle.demands.proofs.Reduced.{OfKind}
 
 -- a blocking write of some bytes, and a blocking read of a length
@@ -43,32 +44,34 @@ module _ (l : List ℕ) (j n : ℕ) where
 
 module _ (l : List ℕ) (rx : ℕ) (ok : refusal l rx ≡ 0) where
   -- the operations of a call, by its kind
-  shaped : (kind first count : ℕ) → kind ≤ 6 → first + count ≤ operation-count l
+  shaped : (kind first count : ℕ) → kind ≤ 7 → first + count ≤ operation-count l
       → kind-right kind (entries (operation-at l) first count) ≡ true
       → ((eqb kind 4 || eqb kind 5) && eqb (operation-at l first .length) 0) ≡ false
+      → (eqb kind 7 && read-then-write (combined (map (operation-of l) (entries (operation-at l) first count)))) ≡ false
       → Shaped kind (map (operation-of l) (entries (operation-at l) first count))
   unfolding kind-right entries
-  shaped zero first count most within e f =
+  shaped zero first count most within e f g =
       let h = one-operation l first count 0 (simp or-false at e) in
       rw (h .0, operation-write l (operation-at l first) (h .1)) polling-write
-  shaped (suc zero) first count most within e f =
+  shaped (suc zero) first count most within e f g =
       let h = one-operation l first count 1 (simp or-false at e) in
       rw (h .0, operation-read l (operation-at l first) (h .1)) polling-read
-  shaped (suc (suc zero)) first count most within e f =
+  shaped (suc (suc zero)) first count most within e f g =
       let h = two-operations l first count 0 1 (simp or-false at e) in
       rw (h .0, operation-write l (operation-at l first) (h .1), operation-read l (operation-at l (first + 1)) (h .2)) polling-write-read
-  shaped (suc (suc (suc zero))) first count most within e f = transaction
-  shaped (suc (suc (suc (suc zero)))) first count most within e f =
+  shaped (suc (suc (suc zero))) first count most within e f g = transaction
+  shaped (suc (suc (suc (suc zero)))) first count most within e f g =
       let h = one-operation l first count 0 (simp or-false at e) in
       let w = write-within l rx ok first (omega (arith, h .0)) (h .1) in
       rw (h .0, operation-write l (operation-at l first) (h .1)) (write-shaped _ (simp (length-take, length-drop) (omega (arith, eqb-false (operation-at l first .length) 0 f))))
-  shaped (suc (suc (suc (suc (suc zero))))) first count most within e f =
+  shaped (suc (suc (suc (suc (suc zero))))) first count most within e f g =
       let h = one-operation l first count 1 (simp or-false at e) in
       rw (h .0, operation-read l (operation-at l first) (h .1)) (read-shaped _ (omega (arith, eqb-false (operation-at l first .length) 0 f)))
-  shaped (suc (suc (suc (suc (suc (suc zero)))))) first count most within e f =
+  shaped (suc (suc (suc (suc (suc (suc zero)))))) first count most within e f g =
       let h = two-operations l first count 0 1 (simp or-false at e) in
       rw (h .0, operation-write l (operation-at l first) (h .1), operation-read l (operation-at l (first + 1)) (h .2)) blocking-write-read
-  shaped (suc (suc (suc (suc (suc (suc (suc kind))))))) first count most within e f = absurd (omega arith)
+  shaped (suc (suc (suc (suc (suc (suc (suc zero))))))) first count most within e f g = blocking-transaction (fails _ g)
+  shaped (suc (suc (suc (suc (suc (suc (suc (suc kind)))))))) first count most within e f g = absurd (omega arith)
 
 -- what holds of each entry holds of all that they mean
 all-entries : {A B : Type 0} (P : B → Type 0) (f : A → B) (entry : ℕ → A) (j n : ℕ) → ((k : ℕ) → k < j + n → P (f (entry k))) → All P (map f (entries entry j n))
@@ -82,7 +85,8 @@ of-kind l rx ok =
     all-entries OfKind _ (call-at l) 0 (call-count l) (λ k below.
     let h : k < call-count l = omega arith in
     shaped l rx ok _ _ _ (call-kind l rx ok k h) (call-within l rx ok k h) (call-operations l rx ok k h)
-    (entry-fails (empty-blocking l) (call-at l) (call-count l) k (accepted l rx ok .blocking) h))
+    (entry-fails (empty-blocking l) (call-at l) (call-count l) k (accepted l rx ok .blocking) h)
+    (entry-fails (write-after-read l) (call-at l) (call-count l) k (accepted l rx ok .combined) h))
 
 -- a test that fails, with all after it
 or-fails : (a b : Bool) → (a || b) ≡ false → Fails a × (b ≡ false)

@@ -2,18 +2,21 @@
 -- Assumes nothing.
 use Prim.Native.Nat.{ℕ, zero, suc, _+_}
 use native.Mathlib.Omega.{arith}
+use native.Mathlib.Nat.{suc-add}
 use mathlib.Core.Bool.{Bool, false}
 use mathlib.Core.Path.{_≡_, refl, ap₂}
 use mathlib.Core.List.{List, [], _∷_, _++_, map, flatten, append-assoc}
 use Rattle.units.specs.declared.Setup.{Setup}
 use Rattle.buslist.specs.Meaning.{Operation, write, read, Call}
+use Rattle.buslist.specs.Combined.{dropped, gather, joined, combined, read-then-write}
+use Rattle.buslist.proofs.Joining.{read-before}
 use Rattle.registers.specs.Access.{CR1, number}
 use Rattle.registers.specs.Machine.{Step, bring-up, flat, whole-run}
 use Rattle.i2c.specs.declared.Previous.{Previous}
 use Rattle.i2c.specs.Polling.{last-read, turn-write, turn-read, turn, transfer, operation-steps, direction, polling-steps}
-use Rattle.engine.specs.Calls.{Engine, polling, blocking, engine-of, early, operations-steps, steps-of}
-use Rattle.demands.specs.Compare.{Reduced, gather, joined, dropped, reduced-operations, reduced, idle, ends-empty}
-use Rattle.demands.proofs.Shape.{All, none, more, Fails, Shaped, polling-write, polling-read, polling-write-read, transaction, blocking-write, blocking-read, blocking-write-read, Full, FullIn, Sound, longer, rewritten}
+use Rattle.engine.specs.Calls.{Engine, polling, blocking, engine-of, early, operations-steps, performed, steps-of}
+use Rattle.demands.specs.Compare.{Reduced, is-empty, reduced-operations, reduced, idle, ends-empty}
+use Rattle.demands.proofs.Shape.{All, none, more, Fails, Shaped, polling-write, polling-read, polling-write-read, transaction, blocking-write, blocking-read, blocking-write-read, blocking-transaction, Full, FullIn, Sound, longer, rewritten}
 use Rattle.demands.proofs.Same.{reduced-steps, reduces-all}
 use Rattle.demands.proofs.Trace.{goes-trace, Both, first, make, weaken, pair, apart, flip, prefix, failing}
 use Rattle.demands.proofs.Apart.{Turns, PollingForm, same-polling, Tail, Halves, opens-half, not-none, not-control, same-blocking}
@@ -73,11 +76,17 @@ full-polling early a previous (o ∷ (o′ ∷ os)) p =
     (prefix (operation-steps early a previous false o) (full-polling early a (direction o) (o′ ∷ os) p))
 
 -- so calls with a trace do not end in an empty read, where they are polling
-full-in : {s : Setup} (e : Engine) (early : Bool) (a : ℕ) (os : List Operation) (p : List Step)
-    → Both s (FullIn e os) (operations-steps s e early a Previous.Nothing os ++ p) (operations-steps s e early a Previous.Nothing os ++ p)
-unfolding operations-steps
-full-in polling early a os p = full-polling early a Previous.Nothing os p
-full-in blocking early a os p = make (λ l g h. tt)
+full-in : {s : Setup} (a : ℕ) {k : ℕ} {os : List Operation} (p : List Step) → Shaped k os
+    → let steps = operations-steps s (engine-of k) (early k) a Previous.Nothing (performed k os) in Both s (FullIn (engine-of k) os) (steps ++ p) (steps ++ p)
+unfolding operations-steps performed engine-of
+full-in a p polling-write = full-polling _ a Previous.Nothing _ p
+full-in a p polling-read = full-polling _ a Previous.Nothing _ p
+full-in a p polling-write-read = full-polling _ a Previous.Nothing _ p
+full-in a p transaction = full-polling _ a Previous.Nothing _ p
+full-in a p blocking-write = make (λ l g h. tt)
+full-in a p blocking-read = make (λ l g h. tt)
+full-in a p blocking-write-read = make (λ l g h. tt)
+full-in a p (blocking-transaction r) = make (λ l g h. tt)
 
 -- the operations of a call are those of its kind
 abbrev pub OfKind : Call → Type 0
@@ -89,7 +98,7 @@ unfolding steps-of flatten
 all-sound s none = make (λ l g h. none)
 all-sound s (more {a = c} {rest = cs} h hs) =
     weaken (λ fs. more (record { shaped = h; full = fs .0 }) (fs .1))
-    (pair (full-in (engine-of (c .kind)) (early (c .kind)) (c .address) (c .operations) _) (prefix (steps-of s c) (all-sound s hs)))
+    (pair (full-in (c .address) _ h) (prefix (steps-of s c) (all-sound s hs)))
 
 -- joined operations turn the direction each
 mutual
@@ -120,6 +129,37 @@ gather-form (write bs) (read n ∷ os) h = (after-write n os, more-full (write b
 gather-form (read m) (write cs ∷ os) h = (after-read cs os, more-full (read m) (gather (write cs) os) (gather-form (write cs) os h))
 gather-form (read m) (read n ∷ os) h = gather-form (read (m + n)) os (longer m n os h)
 
+-- combined operations in which no write comes after a read: from a read on there is that one alone
+one-read : (n : ℕ) (os : List Operation) → Fails (read-then-write (gather (read (suc n)) (dropped os)))
+    → (m : ℕ) × (gather (read (suc n)) (dropped os) ≡ read (suc m) ∷ [])
+unfolding gather dropped
+one-read n [] h = (n, refl)
+one-read n (write [] ∷ os) h = one-read n os h
+one-read n (write (c ∷ cs) ∷ os) h = absurd (rw (read-before (suc n) (c ∷ cs) (dropped os)) at h)
+one-read n (read zero ∷ os) h = one-read n os h
+one-read n (read (suc m) ∷ os) h =
+    let g : Fails (read-then-write (gather (read (suc n + suc m)) (dropped os))) = h in
+    let r : (x : ℕ) × (gather (read (suc n + suc m)) (dropped os) ≡ read (suc x) ∷ []) = rw suc-add (one-read (n + suc m) os (rw suc-add at g)) in
+    r
+
+-- from a write on there is that one, and a read after it or none
+one-write : (b : ℕ) (bs : List ℕ) (os : List Operation) → Fails (read-then-write (gather (write (b ∷ bs)) (dropped os))) → Halves (gather (write (b ∷ bs)) (dropped os))
+unfolding gather dropped read-then-write
+one-write b bs [] h = Halves.write-first Tail.alone
+one-write b bs (write [] ∷ os) h = one-write b bs os h
+one-write b bs (write (c ∷ cs) ∷ os) h = one-write b (bs ++ (c ∷ cs)) os h
+one-write b bs (read zero ∷ os) h = one-write b bs os h
+one-write b bs (read (suc n) ∷ os) h = rw (one-read n os h .1) (Halves.write-first Tail.read-after)
+
+-- so they are a write, a read, or both, where anything is left
+halves : (os : List Operation) → Fails (read-then-write (combined os)) → Fails (is-empty (dropped os)) → Halves (combined os)
+unfolding joined dropped
+halves [] h b = absurd b
+halves (write [] ∷ os) h b = halves os h b
+halves (write (c ∷ cs) ∷ os) h b = one-write c cs os h
+halves (read zero ∷ os) h b = halves os h b
+halves (read (suc n) ∷ os) h b = rw (one-read n os h .1) Halves.read-alone
+
 -- a call that is not idle
 abbrev pub Busy : Call → Type 0
 Busy c = Fails (idle c)
@@ -127,7 +167,7 @@ Busy c = Fails (idle c)
 -- the operations of a reduced call have the form of its engine, by the kind
 formed-by : (a : ℕ) {k : ℕ} {os : List Operation} → Shaped k os → FullIn (engine-of k) os → Fails (idle (record { kind = k; address = a; operations = os }))
     → Form (engine-of k) (reduced-operations (engine-of k) os)
-unfolding engine-of reduced-operations joined dropped idle
+unfolding engine-of reduced-operations joined dropped gather idle
 formed-by a (polling-write {bs}) f b = gather-form (write bs) [] f
 formed-by a (polling-read {n}) f b = gather-form (read n) [] f
 formed-by a (polling-write-read {bs} {n}) f b = gather-form (write bs) (read n ∷ []) f
@@ -139,6 +179,7 @@ formed-by a (blocking-write-read {bs = []} {n = zero}) f b = absurd b
 formed-by a (blocking-write-read {bs = []} {n = suc n}) f b = Halves.read-alone
 formed-by a (blocking-write-read {bs = c ∷ cs} {n = zero}) f b = Halves.write-first Tail.alone
 formed-by a (blocking-write-read {bs = c ∷ cs} {n = suc n}) f b = Halves.write-first Tail.read-after
+formed-by a (blocking-transaction {os} r) f b = halves os r b
 
 -- and so have those of all reduced calls
 formed : {cs : List Call} → All Sound cs → All Busy cs → All Formed (map reduced cs)

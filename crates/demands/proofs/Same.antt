@@ -7,13 +7,14 @@ use mathlib.Core.Path.{_≡_, refl, ap₂, _∙_}
 use mathlib.Core.List.{List, [], _∷_, _++_, map, append-assoc}
 use Rattle.units.specs.declared.Setup.{Setup}
 use Rattle.buslist.specs.Meaning.{Operation, write, read, Call}
+use Rattle.buslist.specs.Combined.{dropped, gather, joined, combined}
 use Rattle.registers.specs.Machine.{Step}
 use Rattle.i2c.specs.declared.Previous.{Previous}
 use Rattle.i2c.specs.Polling.{write-bytes, read-bytes, last-read, turn-write, turn-read, turn, transfer, is-last, polling-steps}
 use Rattle.blocking.specs.Blocking.{write-without-stop, read-steps, blocking-steps}
-use Rattle.engine.specs.Calls.{engine-of, early, operations-steps, steps-of}
-use Rattle.demands.specs.Compare.{Reduced, gather, joined, dropped, reduced-operations, reduced, ends-empty}
-use Rattle.demands.proofs.Shape.{All, none, more, Shaped, polling-write, polling-read, polling-write-read, transaction, blocking-write, blocking-read, blocking-write-read, Full, FullIn, Sound, longer, rewritten}
+use Rattle.engine.specs.Calls.{engine-of, early, operations-steps, performed, steps-of}
+use Rattle.demands.specs.Compare.{Reduced, reduced-operations, reduced, ends-empty}
+use Rattle.demands.proofs.Shape.{All, none, more, Shaped, polling-write, polling-read, polling-write-read, transaction, blocking-write, blocking-read, blocking-write-read, blocking-transaction, Full, FullIn, Sound, longer, rewritten}
 
 -- bytes in two parts
 write-append : (bs cs : List ℕ) → write-bytes (bs ++ cs) ≡ write-bytes bs ++ write-bytes cs
@@ -59,14 +60,14 @@ gather-steps a previous (read m) (write cs ∷ os) h = rw (gather-steps a Previo
 gather-steps a previous (read m) (read n ∷ os) h =
     simp (← join-read m n os h, append-assoc) refl ∙ gather-steps a previous (read (m + n)) os (longer m n os h)
 
--- empty operations do nothing
-dropped-steps : (s : Setup) (a : ℕ) (previous : Previous) (os : List Operation) → blocking-steps s a previous os ≡ blocking-steps s a previous (dropped os)
-unfolding blocking-steps dropped write-without-stop read-steps
-dropped-steps s a previous [] = refl
-dropped-steps s a previous (write [] ∷ os) = dropped-steps s a previous os
-dropped-steps s a previous (write (b ∷ bs) ∷ os) = rw (dropped-steps s a Previous.Write os)
-dropped-steps s a previous (read zero ∷ os) = dropped-steps s a previous os
-dropped-steps s a previous (read (suc n) ∷ os) = rw (dropped-steps s a Previous.Read os)
+-- a blocking write_read does what is left of it, combined
+halves-steps : (s : Setup) (a : ℕ) (bs : List ℕ) (n : ℕ)
+    → blocking-steps s a Previous.Nothing (write bs ∷ read n ∷ []) ≡ blocking-steps s a Previous.Nothing (combined (write bs ∷ read n ∷ []))
+unfolding blocking-steps joined dropped gather write-without-stop read-steps
+halves-steps s a [] zero = refl
+halves-steps s a [] (suc n) = refl
+halves-steps s a (b ∷ bs) zero = refl
+halves-steps s a (b ∷ bs) (suc n) = refl
 
 -- the steps of a reduced call
 unfoldable pub reduced-steps : Setup → Reduced → List Step
@@ -80,15 +81,16 @@ joined-steps a (o ∷ os) h = gather-steps a Previous.Nothing o os h
 
 -- reduced operations do what they did, by the kind
 shaped-steps : (s : Setup) (a : ℕ) {k : ℕ} {os : List Operation} → Shaped k os → FullIn (engine-of k) os
-    → operations-steps s (engine-of k) (early k) a Previous.Nothing os ≡ operations-steps s (engine-of k) false a Previous.Nothing (reduced-operations (engine-of k) os)
-unfolding operations-steps reduced-operations engine-of early joined gather polling-steps turn ends-empty
+    → operations-steps s (engine-of k) (early k) a Previous.Nothing (performed k os) ≡ operations-steps s (engine-of k) false a Previous.Nothing (reduced-operations (engine-of k) os)
+unfolding operations-steps performed reduced-operations engine-of early joined dropped gather polling-steps turn ends-empty
 shaped-steps s a polling-write h = refl
 shaped-steps s a (polling-read {n = suc n}) h = refl
 shaped-steps s a (polling-write-read {n = suc n}) h = refl
 shaped-steps s a (transaction {os}) h = joined-steps a os h
-shaped-steps s a (blocking-write {b} {bs}) h = dropped-steps s a Previous.Nothing (write (b ∷ bs) ∷ [])
-shaped-steps s a (blocking-read {n}) h = dropped-steps s a Previous.Nothing (read (suc n) ∷ [])
-shaped-steps s a (blocking-write-read {bs} {n}) h = dropped-steps s a Previous.Nothing (write bs ∷ read n ∷ [])
+shaped-steps s a blocking-write h = refl
+shaped-steps s a blocking-read h = refl
+shaped-steps s a (blocking-write-read {bs} {n}) h = halves-steps s a bs n
+shaped-steps s a (blocking-transaction r) h = refl
 
 -- a sound call does what its reduced call does
 reduces : (s : Setup) (c : Call) → Sound c → steps-of s c ≡ reduced-steps s (reduced c)

@@ -7,6 +7,7 @@ use mathlib.Core.Bool.{Bool, true, false}
 use mathlib.Core.Path.{_≡_}
 use mathlib.Core.List.{List, [], _∷_}
 use Rattle.buslist.specs.Meaning.{Operation, write, read, Call}
+use Rattle.buslist.specs.Combined.{combined, read-then-write}
 use Rattle.engine.specs.Calls.{Engine, polling, blocking, engine-of}
 use Rattle.demands.specs.Compare.{ends-empty}
 
@@ -24,7 +25,7 @@ pub fails : (b : Bool) → b ≡ false → Fails b
 fails true e = let z : _≡_ {A = ℕ} 0 1 = cc in omega arith
 fails false e = tt
 
--- the operations of a call, by its kind; kinds 4 and 5 are not empty
+-- the operations of a call, by its kind; kinds 4 and 5 are not empty, and kind 7 has no write after a read
 pub data Shaped : ℕ → List Operation → Type 0 where
   polling-write : {bs : List ℕ} → Shaped 0 (write bs ∷ [])
   polling-read : {n : ℕ} → Shaped 1 (read n ∷ [])
@@ -33,6 +34,7 @@ pub data Shaped : ℕ → List Operation → Type 0 where
   blocking-write : {b : ℕ} {bs : List ℕ} → Shaped 4 (write (b ∷ bs) ∷ [])
   blocking-read : {n : ℕ} → Shaped 5 (read (suc n) ∷ [])
   blocking-write-read : {bs : List ℕ} {n : ℕ} → Shaped 6 (write bs ∷ read n ∷ [])
+  blocking-transaction : {os : List Operation} → Fails (read-then-write (combined os)) → Shaped 7 os
 
 -- the last operation is no empty read
 abbrev pub Full : List Operation → Type 0

@@ -16,7 +16,7 @@ use Rattle.registers.specs.Machine.{poll-word, start, poll-error, poll-ready, a
 use Rattle.i2c.specs.Polling.{read-bytes}
 use Rattle.blocking.specs.Blocking.{later-bytes, write-bytes-and-wait, write-without-stop, read-steps, close-after, blocking-steps}
 use Rattle.engine.specs.Run.{run}
-use Rattle.demands.specs.Compare.{gather, joined, dropped, reduced-operations, reduced, idle, ends-empty, polls-empty-read, settings-words, Accepted, Comparable, Reduced, reduced-calls, SameRun}
+use Rattle.demands.specs.Compare.{reduced-operations, reduced, idle, ends-empty, polls-empty-read, settings-words, Accepted, Comparable, Reduced, reduced-calls, SameRun}
 use Rattle.demands.specs.Examples.{settings, call-to, computed, ran}
 use Rattle.demands.proofs.Demand3.{demand-3}
 
@@ -89,9 +89,9 @@ turned =
     1 ∷ 1 ∷ 1 ∷ 1 ∷ 3 ∷ 2 ∷ 7 ∷ 0x80 ∷ 0x84 ∷ 1 ∷ 1 ∷ 1 ∷ 3 ∷ 2 ∷ 2 ∷ 7 ∷ 0x40 ∷ 0x40 ∷ 0x2a ∷ 1 ∷ 0x40 ∷ 0x40 ∷ 0x2b ∷ 1 ∷ []
 
 -- names all that these compute by
-performed : List ℕ → List ℕ → ℕ
-unfolding computed ran gather joined dropped reduced-operations reduced idle ends-empty polls-empty-read read-bytes poll-word poll-error poll-ready after-poll start blocking-steps later-bytes write-bytes-and-wait write-without-stop read-steps close-after
-performed l readings = run l readings 0 100 .answer
+computed-by : List ℕ → List ℕ → ℕ
+unfolding computed ran reduced-operations reduced idle ends-empty polls-empty-read read-bytes poll-word poll-error poll-ready after-poll start blocking-steps later-bytes write-bytes-and-wait write-without-stop read-steps close-after
+computed-by l readings = run l readings 0 100 .answer
 
 -- two unlike lists that are compared, with equal reduced calls, and a received buffer of rx bytes
 pub record Alike (l m : List ℕ) (rx : ℕ) : Type 0 where
@@ -212,7 +212,7 @@ not-told lengths same idle-call busy′ accepted accepted′ ends ends′ one-re
     }
 
 pub witness : Witness
-unfolding performed
+unfolding computed-by
 witness =
     record {
       polling-pair = alike (omega arith) refl refl refl refl refl refl;

@@ -1,41 +1,22 @@
 -- Two lists compared (document 01, "Reduced call" and "Two whole runs").
-use Prim.Native.Nat.{ℕ, zero, suc, _+_}
+use Prim.Native.Nat.{ℕ, zero, suc}
 use mathlib.Core.Path.{_≡_}
-use mathlib.Core.List.{List, [], _∷_, _++_, map}
+use mathlib.Core.List.{List, [], _∷_, map}
 use mathlib.Core.Bool.{Bool, true, false, _&&_, _||_}
 use lib.Dec.{eqb}
 use Rattle.buslist.specs.Bytes.{word}
 use Rattle.buslist.specs.Refusal.{refusal, any}
 use Rattle.buslist.specs.Meaning.{Operation, write, read, Call, calls-of}
+use Rattle.buslist.specs.Combined.{dropped, joined, combined}
 use Rattle.registers.specs.Access.{record-of, received-of}
 use Rattle.registers.specs.Machine.{flat}
 use Rattle.engine.specs.Calls.{Engine, polling, blocking, engine-of}
 use Rattle.engine.specs.Run.{Result, run, counts-of}
 
--- neighbours of one direction joined: `gather o os` is o joined with what follows it, and the rest
-unfoldable pub gather : Operation → List Operation → List Operation
-gather o [] = o ∷ []
-gather (write bs) (write cs ∷ os) = gather (write (bs ++ cs)) os
-gather (write bs) (read n ∷ os) = write bs ∷ gather (read n) os
-gather (read m) (write cs ∷ os) = read m ∷ gather (write cs) os
-gather (read m) (read n ∷ os) = gather (read (m + n)) os
-
-unfoldable pub joined : List Operation → List Operation
-joined [] = []
-joined (o ∷ os) = gather o os
-
--- empty operations dropped
-unfoldable pub dropped : List Operation → List Operation
-dropped [] = []
-dropped (write [] ∷ os) = dropped os
-dropped (write (b ∷ bs) ∷ os) = write (b ∷ bs) ∷ dropped os
-dropped (read zero ∷ os) = dropped os
-dropped (read (suc n) ∷ os) = read (suc n) ∷ dropped os
-
--- the operations of a reduced call: polling joined, blocking with the empty ones dropped
+-- the operations of a reduced call: polling joined, blocking with the empty ones dropped and the others joined
 unfoldable pub reduced-operations : Engine → List Operation → List Operation
 reduced-operations polling os = joined os
-reduced-operations blocking os = dropped os
+reduced-operations blocking os = combined os
 
 -- a reduced call: engine, address, operations
 pub record Reduced : Type 0 where
@@ -55,9 +36,9 @@ abbrev pub is-empty : {A : Type 0} → List A → Bool
 is-empty [] = true
 is-empty (x ∷ xs) = false
 
--- an idle call makes no access: a transaction without operations, a blocking write_read with both halves empty
+-- an idle call makes no access: a transaction without operations, a blocking write_read with both halves empty, a kind 7 call with nothing left
 unfoldable pub idle : Call → Bool
-idle c = eqb (c .kind) 3 && is-empty (c .operations) || eqb (c .kind) 6 && is-empty (dropped (c .operations))
+idle c = eqb (c .kind) 3 && is-empty (c .operations) || (eqb (c .kind) 6 || eqb (c .kind) 7) && is-empty (dropped (c .operations))
 
 -- the last operation, the last one listed, is an empty read: one of length 0
 unfoldable pub ends-empty : List Operation → Bool

@@ -12,9 +12,9 @@ use Rattle.registers.specs.Access.{is-read, cut, entries-in, words-in, record-o
 use Rattle.registers.specs.Machine.{flat}
 use Rattle.engine.specs.Run.{Result, accepted-run, run, filled}
 
--- the numbers of document 01's table: 0 to 10, and the causes, 20 to 26
+-- the numbers of document 01's table, and of document 02: 0 to 10, and the causes, 20 to 27
 abbrev pub is-cause : ℕ → Bool
-is-cause n = leb 20 n && leb n 26
+is-cause n = leb 20 n && leb n 27
 
 abbrev pub known : ℕ → Bool
 known n = leb n 10 || is-cause n

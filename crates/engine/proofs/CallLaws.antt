@@ -11,7 +11,10 @@ use borrow.Author.Tests.{eq-eqb, ne-eqb}
 use Rattle.units.specs.declared.Setup.{Setup}
 use Rattle.buslist.specs.declared.OperationEntry.{OperationEntry}
 use Rattle.buslist.specs.declared.CallEntry.{CallEntry}
+use Rattle.buslist.specs.declared.Joined.{Joined}
 use Rattle.buslist.specs.Meaning.{Operation, operation-of, call-of, calls-of}
+use Rattle.buslist.specs.Combined.{dropped, joined, combined}
+use Rattle.buslist.specs.Next.{operations-from, JoinsAt}
 use Rattle.buslist.specs.Table.{call-count, call-at, operation-at, entries}
 use Rattle.buslist.proofs.Walk.{entries-step, entries-end}
 use Rattle.registers.specs.declared.Progress.{Progress}
@@ -23,9 +26,9 @@ use Rattle.registers.proofs.Laws.{done-law}
 use Rattle.registers.proofs.Steps.{NotWell, not-first}
 use Rattle.i2c.specs.declared.Previous.{Previous}
 use Rattle.i2c.specs.Polling.{polling-steps, is-last}
-use Rattle.blocking.specs.Blocking.{blocking-steps}
-use Rattle.engine.specs.Calls.{Engine, engine-of, early, steps-of, operations-steps}
-use Rattle.engine.specs.Whole.{is-polling, operation-steps, moved, end-steps, Final, more-calls, after-calls, calls-run, final, Ends, Left}
+use Rattle.blocking.specs.Blocking.{write-without-stop, read-steps, done-last, blocking-steps, operation-steps as blocking-operation}
+use Rattle.engine.specs.Calls.{Engine, engine-of, early, operations-steps, performed, steps-of}
+use Rattle.engine.specs.Whole.{is-polling, operation-steps, moved, rest-steps, Takes, end-steps, Final, more-calls, after-calls, calls-run, final, Ends, Left}
 
 -- no call is done yet
 pub calls-start : {s : Setup} {cs : List (List Step)} {st : State} → Left s cs st 0 cs st
@@ -109,15 +112,68 @@ last-is f entry j n h = go (n - (j + 1)) refl
     go zero e = rw (e, eq-eqb (j + 1) n (omega arith))
     go (suc m) e = rw (e, ne-eqb (j + 1) n (λ q. omega arith))
 
--- operation j of a call, and the operations after it
-module _ (s : Setup) (e : Engine) (early : Bool) (a : ℕ) (previous : Previous) {A : Type 0} (f : A → Operation) (entry : ℕ → A) (j n : ℕ) where
-  pub operations-next : {o : A} → j < n → o ≡ entry j → {previous′ : Previous} → previous′ ≡ moved e previous (f o)
-      → operations-steps s e early a previous (map f (entries entry j (n - j)))
-      ≡ operation-steps s e early a previous (eqb (j + 1) n) (f o) ++ operations-steps s e early a previous′ (map f (entries entry (j + 1) (n - (j + 1))))
-  operations-next h k m = rw (entries-step entry j n h, operations-cons s early a previous e, last-is f entry j n h, ← k, m)
+-- the operations that a call does: of kind 7 combined, of any other kind those listed
+pub performed-combined : (kind : ℕ) (os : List Operation) → kind ≡ 7 → performed kind os ≡ combined os
+unfolding performed
+performed-combined kind os e = rw (eq-eqb kind 7 e)
 
-  pub operations-done : n ≤ j → operations-steps s e early a previous (map f (entries entry j (n - j))) ≡ end-steps s e previous
-  operations-done h = rw (entries-end entry j n h) (operations-nil s early a previous e)
+pub performed-listed : (kind : ℕ) (os : List Operation) → (kind ≡ 7 → ⊥) → performed kind os ≡ os
+unfolding performed
+performed-listed kind os h = rw (ne-eqb kind 7 h)
+
+performed-none : (kind : ℕ) → performed kind [] ≡ []
+unfolding performed joined dropped
+performed-none kind = go (eqb kind 7)
+  where
+    go : (t : Bool) → cond t (combined []) [] ≡ []
+    go true = refl
+    go false = refl
+
+-- an operation before combined ones, unless it is empty, is done before them
+first-combined : (s : Setup) (a : ℕ) (previous : Previous) (o : Operation) (os : List Operation)
+    → blocking-steps s a previous (dropped (o ∷ []) ++ os) ≡ blocking-operation s a o ++ blocking-steps s a (done-last previous o) os
+unfolding blocking-steps dropped write-without-stop read-steps
+first-combined s a previous (Operation.write []) os = refl
+first-combined s a previous (Operation.write (b ∷ bs)) os = refl
+first-combined s a previous (Operation.read zero) os = refl
+first-combined s a previous (Operation.read (suc n)) os = refl
+
+-- operation j of a call, and the operations after it
+module _ (l : List ℕ) (c : CallEntry) (j end : ℕ) where
+  pub takes-listed : (o : OperationEntry) → (c .kind ≡ 7 → ⊥) → j < end → o ≡ operation-at l j → Takes l c j end (record { operation = o; next = j + 1 })
+  takes-listed o h below e =
+      record {
+        some = omega arith;
+        most = omega arith;
+        first = λ s previous. rw (
+          performed-listed (c .kind) (operations-from l j end) h,
+          performed-listed (c .kind) (operations-from l (j + 1) end) h,
+          entries-step (operation-at l) j end below,
+          operations-cons s (early (c .kind)) (c .address) previous (engine-of (c .kind)),
+          last-is (operation-of l) (operation-at l) j end below,
+          ← e,
+        );
+      }
+
+  pub takes-joined : (r : Joined) → c .kind ≡ 7 → JoinsAt l j end r → Takes l c j end r
+  unfolding operations-steps operation-steps moved engine-of
+  takes-joined r h x =
+      record {
+        some = x .some;
+        most = x .most;
+        first = λ s previous. rw (
+          performed-combined (c .kind) (operations-from l j end) h,
+          performed-combined (c .kind) (operations-from l (r .next) end) h,
+          x .first,
+          h,
+        ) (first-combined s (c .address) previous (operation-of l (r .operation)) (combined (operations-from l (r .next) end)));
+      }
+
+-- no operation is left
+pub operations-done : (s : Setup) (l : List ℕ) (c : CallEntry) (previous : Previous) (j end : ℕ) → end ≤ j
+    → rest-steps s c previous (operations-from l j end) ≡ end-steps s (engine-of (c .kind)) previous
+operations-done s l c previous j end h =
+    rw (entries-end (operation-at l) j end h, performed-none (c .kind)) (operations-nil s (early (c .kind)) (c .address) previous (engine-of (c .kind)))
 
 -- the calls of a list, as the outer loop takes them
 module _ (s : Setup) (l : List ℕ) where
@@ -129,13 +185,8 @@ module _ (s : Setup) (l : List ℕ) where
   calls-all n e = rw (e, sub-zero)
 
   -- call k is done operation by operation, from its first to its end
-  abbrev pub call-from : CallEntry → ℕ → List Step
-  call-from c end =
-      operations-steps s (engine-of (c .kind)) (early (c .kind)) (c .address) Previous.Nothing
-      (map (operation-of l) (entries (operation-at l) (c .first) (end - c .first)))
-
   pub calls-next : (k n end : ℕ) {c : CallEntry} → k < n → c ≡ call-at l k → end ≡ c .first + c .count
-      → calls-from k n ≡ call-from c end ∷ calls-from (k + 1) n
+      → calls-from k n ≡ rest-steps s c Previous.Nothing (operations-from l (c .first) end) ∷ calls-from (k + 1) n
   unfolding steps-of
   calls-next k n end {c} h e f =
       let g : end - c .first ≡ c .count = omega arith in

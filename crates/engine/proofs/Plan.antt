@@ -2,16 +2,18 @@
 -- Assumes nothing.
 use Prim.Native.Nat.{ℕ, zero, suc, _+_}
 use native.Mathlib.Omega.{arith}
+use native.Mathlib.Nat.{zero-add, suc-add}
 use mathlib.Core.Bool.{Bool, true, false, cond}
 use mathlib.Core.Path.{_≡_, refl, _∙_}
 use mathlib.Core.List.{List, [], _∷_, _++_}
-use lib.Dec.{leb}
+use lib.Dec.{eqb, leb}
 use Rattle.units.specs.declared.Setup.{Setup}
 use Rattle.buslist.specs.Meaning.{Operation, write, read, Call}
+use Rattle.buslist.specs.Combined.{dropped, gather, joined, combined}
 use Rattle.i2c.specs.declared.Previous.{Previous}
 use Rattle.i2c.specs.Polling.{write-bytes, read-bytes, last-read, turn-write, turn-read, turn, transfer, direction, is-last, polling-steps}
 use Rattle.blocking.specs.Blocking.{later-bytes, write-wait, write-bytes-and-wait, write-without-stop, receive-bytes, last-three, read-arm, read-steps, done-last, close-after, blocking-steps, operation-steps as blocking-operation}
-use Rattle.engine.specs.Calls.{Engine, engine-of, early, operations-steps, steps-of}
+use Rattle.engine.specs.Calls.{Engine, engine-of, early, operations-steps, performed, steps-of}
 use Rattle.registers.specs.declared.BusError.{BusError}
 use Rattle.registers.specs.declared.Flagged.{Flagged}
 use Rattle.registers.specs.declared.Awaited.{Awaited}
@@ -237,14 +239,54 @@ module _ (P G : ℕ → ℕ) (w : Weights P G) where
         blocking-total s a (done-last previous o) os,
       )
 
+  -- Kind 7
+
+  times-add : (m n : ℕ) → times (m + n) ≡ times m + times n
+  unfolding times
+  times-add zero n = rw zero-add (omega arith)
+  times-add (suc m) n = rw suc-add (omega (arith, times-add m n))
+
+  -- empty operations receive nothing, and joined ones what their parts do
+  dropped-reads : (os : List Operation) → reads-together (dropped os) ≡ reads-together os
+  unfolding dropped reads-together times
+  dropped-reads [] = refl
+  dropped-reads (write [] ∷ os) = omega (arith, dropped-reads os)
+  dropped-reads (write (b ∷ bs) ∷ os) = omega (arith, dropped-reads os)
+  dropped-reads (read zero ∷ os) = omega (arith, dropped-reads os)
+  dropped-reads (read (suc n) ∷ os) = omega (arith, dropped-reads os)
+
+  gather-reads : (o : Operation) (os : List Operation) → reads-together (gather o os) ≡ reads-in o + reads-together os
+  unfolding gather reads-together
+  gather-reads o [] = refl
+  gather-reads (write bs) (write cs ∷ os) = omega (arith, gather-reads (write (bs ++ cs)) os)
+  gather-reads (write bs) (read n ∷ os) = omega (arith, gather-reads (read n) os)
+  gather-reads (read m) (write cs ∷ os) = omega (arith, gather-reads (write cs) os)
+  gather-reads (read m) (read n ∷ os) = omega (arith, gather-reads (read (m + n)) os, times-add m n)
+
+  joined-reads : (os : List Operation) → reads-together (joined os) ≡ reads-together os
+  unfolding joined reads-together
+  joined-reads [] = refl
+  joined-reads (o ∷ os) = gather-reads o os
+
+  performed-reads : (kind : ℕ) (os : List Operation) → reads-together (performed kind os) ≡ reads-together os
+  unfolding performed
+  performed-reads kind os = go (eqb kind 7)
+    where
+      go : (t : Bool) → reads-together (cond t (combined os) os) ≡ reads-together os
+      go true = joined-reads (dropped os) ∙ dropped-reads os
+      go false = refl
+
+  -- operations plan what they are to receive, in both engines
+  operations-total : (s : Setup) (e : Engine) (early : Bool) (a : ℕ) (os : List Operation) → total (operations-steps s e early a Previous.Nothing os) ≡ reads-together os
+  unfolding operations-steps
+  operations-total s Engine.polling early a os = polling-total early a Previous.Nothing os
+  operations-total s Engine.blocking early a os = blocking-total s a Previous.Nothing os
+
   -- a call plans what its operations are to receive
   pub steps-total : (s : Setup) (c : Call) → total (steps-of s c) ≡ reads-together (c .operations)
-  unfolding steps-of operations-steps
-  steps-total s c = go (engine-of (c .kind))
-    where
-      go : (e : Engine) → total (operations-steps s e (early (c .kind)) (c .address) Previous.Nothing (c .operations)) ≡ reads-together (c .operations)
-      go Engine.polling = polling-total (early (c .kind)) (c .address) Previous.Nothing (c .operations)
-      go Engine.blocking = blocking-total s (c .address) Previous.Nothing (c .operations)
+  unfolding steps-of
+  steps-total s c =
+      operations-total s (engine-of (c .kind)) (early (c .kind)) (c .address) (performed (c .kind) (c .operations)) ∙ performed-reads (c .kind) (c .operations)
 
   -- the weight of the access that a step makes
   abbrev pub access-weight : Act → ℕ

@@ -1,12 +1,15 @@
 -- The forms of the contracts of the run's inner functions: one operation of a call, the end of a call, and a whole run from a state, call by call.
-use Prim.Native.Nat.{ℕ, zero, suc, _+_}
+use Prim.Native.Nat.{ℕ, _+_, _≤_, _<_}
 use mathlib.Core.Path.{_≡_}
 use mathlib.Core.Bool.{Bool, true, false}
-use mathlib.Core.List.{List, [], _∷_, map}
+use mathlib.Core.List.{List, [], _∷_, _++_, map}
+use lib.Dec.{eqb}
 use denote.Ref.{now}
 use Rattle.units.specs.declared.Setup.{Setup}
 use Rattle.buslist.specs.declared.CallEntry.{CallEntry}
-use Rattle.buslist.specs.Meaning.{Operation, write, read, calls-of}
+use Rattle.buslist.specs.declared.Joined.{Joined}
+use Rattle.buslist.specs.Meaning.{Operation, operation-of, calls-of}
+use Rattle.buslist.specs.Next.{operations-from}
 use Rattle.registers.specs.declared.Progress.{Progress}
 use Rattle.registers.specs.declared.Outcome.{Outcome}
 use Rattle.registers.specs.Access.{well, failed, cut-number, number}
@@ -17,19 +20,12 @@ use Rattle.i2c.specs.declared.Previous.{Previous}
 use Rattle.i2c.specs.Polling.{direction, operation-steps as polling-operation}
 use Rattle.blocking.specs.Blocking.{done-last, close-after, operation-steps as blocking-operation}
 use Rattle.engine.specs.declared.Counts.{Counts}
-use Rattle.engine.specs.Calls.{Engine, polling, blocking, engine-of, early, steps-of}
+use Rattle.engine.specs.Calls.{Engine, polling, blocking, engine-of, early, operations-steps, performed, steps-of}
 
 -- a polling call
 abbrev pub is-polling : Engine → Bool
 is-polling polling = true
 is-polling blocking = false
-
--- an operation without bytes
-abbrev pub empty : Operation → Bool
-empty (write []) = true
-empty (write (b ∷ bs)) = false
-empty (read zero) = true
-empty (read (suc n)) = false
 
 -- one operation, with the operation before it and whether it is the last
 unfoldable pub operation-steps : Setup → Engine → Bool → ℕ → Previous → Bool → Operation → List Step
@@ -47,6 +43,19 @@ polling-entry c previous last o = polling-operation (early (c .kind)) (c .addres
 unfoldable pub moved : Engine → Previous → Operation → Previous
 moved polling previous o = direction o
 moved blocking previous o = done-last previous o
+
+-- of the call that an entry has, these operations are left, after an operation of direction `previous` or none
+abbrev pub rest-steps : Setup → CallEntry → Previous → List Operation → List Step
+rest-steps s c previous os = operations-steps s (engine-of (c .kind)) (early (c .kind)) (c .address) previous (performed (c .kind) os)
+
+-- of the operations from j on a call does the joined one first, then those from the next number on
+pub record Takes (l : List ℕ) (c : CallEntry) (j end : ℕ) (r : Joined) : Type 0 where
+  pub some : j < r .next
+  pub most : r .next ≤ end
+  pub first : (s : Setup) (previous : Previous) →
+      let o = operation-of l (r .operation) in
+      rest-steps s c previous (operations-from l j end)
+      ≡ entry-steps s c previous (eqb (r .next) end) o ++ rest-steps s c (moved (engine-of (c .kind)) previous o) (operations-from l (r .next) end)
 
 -- the end of a call
 unfoldable pub end-steps : Setup → Engine → Previous → List Step

@@ -1,5 +1,6 @@
 // The engine as hosts see it: the run of a bus list, and every exported function.
 use buslist::CallEntry;
+use buslist::Joined;
 use buslist::OperationEntry;
 use i2c::Previous;
 use registers::Outcome;
@@ -10,13 +11,14 @@ ghost use mathlib.Core.Path.{_≡_};
 ghost use mathlib.Core.List.{List};
 ghost use Prim.Native.Nat.{ℕ, _<_, _≤_};
 ghost use lib.ListN.{length};
+ghost use Rattle.buslist.specs.Table.{operation-count, operation-offset};
 ghost use Rattle.buslist.specs.Refusal.{refusal};
 ghost use Rattle.buslist.specs.Meaning.{operation-of};
 ghost use Rattle.registers.specs.Contract.{DoesWith, Receives};
 ghost use Rattle.i2c.specs.Polling.{direction};
 ghost use Rattle.blocking.specs.Blocking.{operation-steps as blocking-operation};
 ghost use Rattle.engine.specs.Calls.{engine-of, early};
-ghost use Rattle.engine.specs.Whole.{is-polling, empty, entry-steps, polling-entry, moved, end-steps, RunsCalls, progress-of, ended-counts};
+ghost use Rattle.engine.specs.Whole.{is-polling, entry-steps, polling-entry, moved, Takes, end-steps, RunsCalls, progress-of, ended-counts};
 ghost use Rattle.engine.specs.Run.{Runs, HostRuns};
 ghost use Rattle.engine.specs.Speed.{speed-out, speed-cr2, speed-trise, speed-ccr};
 
@@ -182,16 +184,6 @@ fn operation(
     blocking_operation(list, readings, rx, log, progress, setup, call, o)
 }
 
-// Whether an operation has no bytes.
-fn is_empty(list: &[u8], o: OperationEntry) -> bool
-    ensures { λ r. ⌜ r ≡ empty (operation-of (now (list .entry)) o) ⌝ }
-{
-    if o.direction == 0 {
-        return buslist::bytes_of(list, o).len() == 0;
-    }
-    o.length == 0
-}
-
 // The direction of an operation, for the one after it.
 fn direction(o: OperationEntry) -> Previous
     ensures { λ r. ⌜ ((l : List ℕ) → r ≡ direction (operation-of l o)) ⌝ }
@@ -209,7 +201,7 @@ fn moved(list: &[u8], call: CallEntry, o: OperationEntry, previous: Previous) ->
     if is_polling(call.kind) {
         return direction(o);
     }
-    if is_empty(list, o) {
+    if buslist::is_empty(list, o) {
         return previous;
     }
     direction(o)
@@ -230,6 +222,20 @@ fn end_call(
         return Outcome::Well(progress);
     }
     blocking::close_after(readings, log, progress, setup, previous)
+}
+
+// The operation that a call does at j, and the number of the one after it. A call of kind 7 does operations joined.
+fn operation_from(list: &[u8], start: u32, call: CallEntry, j: u32, end: u32) -> Joined
+    requires { ⌜ (start ≡ operation-offset (now list)) × (j < end) × (end ≤ operation-count (now list)) × ((rx : ℕ) × (refusal (now list) rx ≡ 0)) ⌝ }
+    ensures { λ r. ⌜ Takes (now (list .entry)) call j end r ⌝ }
+{
+    if call.kind == 7 {
+        return buslist::joined_at(list, start, j, end);
+    }
+    Joined {
+        operation: buslist::operation_at(list, start, j),
+        next: j + 1,
+    }
 }
 
 // The calls in order, until one does not end well.
@@ -256,7 +262,8 @@ fn run_calls(
         let mut j = call.first as u32;
         let mut previous = Previous::Nothing;
         while j < end {
-            let o = buslist::operation_at(list, operation_start, j);
+            let joined = operation_from(list, operation_start, call, j, end);
+            let o = joined.operation;
             outcome = operation(
                 list,
                 readings,
@@ -267,14 +274,14 @@ fn run_calls(
                 call,
                 o,
                 previous,
-                j + 1 == end,
+                joined.next == end,
             );
             let Outcome::Well(next) = outcome else {
                 break 'calls;
             };
             progress = next;
             previous = moved(list, call, o, previous);
-            j += 1;
+            j = joined.next;
         }
         outcome = end_call(readings, log, progress, setup, call, previous);
         let Outcome::Well(next) = outcome else {

@@ -11,7 +11,7 @@ use Rattle.buslist.proofs.operations_right.Statement.{statement}
 use Rattle.buslist.proofs.operations_right.Tie as tie
 
 abbrev Inv-loop : tie.InvT-loop
-Inv-loop list n start j₀ sum₀ j sum = (sum ≤ 65535 * j) × (operations-right (data-bytes list) 0 (operations list) ≡ operations-right (data-bytes list) sum (entries (operation-at list) j (n - j)))
+Inv-loop list n start j₀ sum₀ j sum = (sum ≤ 4294967295 * j) × (operations-right (data-bytes list) 0 (operations list) ≡ operations-right (data-bytes list) sum (entries (operation-at list) j (n - j)))
 
 abbrev μ-loop : tie.MeasureT-loop
 μ-loop list n start j₀ sum₀ j sum = n - j

@@ -39,6 +39,10 @@ past-blocking : (c : tie.Else6) → Past 6 (c .before .before .before .before .b
 unfolding causes first-cause
 past-blocking c = past-addresses (c .before .before) ∙ rw (← c .before .any-empty-blocking .ensures, c .if6 .left)
 
+past-room : (c : tie.Else7) → Past 7 (c .before .before .before .before .before .before .before .before .before .before .before .before .before .before .before .before)
+unfolding causes first-cause
+past-room c = past-blocking (c .before .before) ∙ rw (← c .before .all-received .ensures, le-ltb _ _ (c .if7 .left))
+
 returns : tie.Need-returns
 unfolding refusal causes first-cause
 returns c = rw (← c .before .of-the-form .ensures, not-true (c .before .of-the-form .result) (c .if1 .taken))
@@ -71,7 +75,11 @@ returns-7 c = sym (past-blocking (c .before .before) ∙ rw (← c .before .all-
 
 returns-8 : tie.Need-returns-8
 unfolding causes first-cause
-returns-8 c = sym (past-blocking (c .before .before) ∙ rw (← c .before .all-received .ensures, le-ltb _ _ (c .if7 .left)))
+returns-8 c = sym (past-room (c .before .before) ∙ rw (← c .before .any-write-after-read .ensures, c .if8 .taken))
+
+returns-9 : tie.Need-returns-9
+unfolding causes first-cause
+returns-9 c = sym (past-room (c .before .before) ∙ rw (← c .before .any-write-after-read .ensures, c .if8 .left))
 
 pub refusal-spec : {M : Type 1} → statement M
 refusal-spec =
@@ -92,4 +100,6 @@ refusal-spec =
     returns-6
     (λ c κs. search needs)
     returns-7
-    returns-8)
+    (λ c κs. search needs)
+    returns-8
+    returns-9)

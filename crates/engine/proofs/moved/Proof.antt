@@ -1,9 +1,9 @@
 use Rattle.engine.proofs.CallLaws.{polling-call, blocking-call}
-use Rattle.engine.specs.Whole.{empty, moved}
+use Rattle.engine.specs.Whole.{moved}
 use Rattle.blocking.specs.Blocking.{done-last}
 use Rattle.i2c.specs.Polling.{direction}
 use Rattle.i2c.specs.declared.Previous.{Previous}
-use Rattle.buslist.specs.Meaning.{Operation, operation-of}
+use Rattle.buslist.specs.Meaning.{Operation, empty, operation-of}
 use mathlib.Core.Bool.{true, false}
 use mathlib.Core.List.{[], _∷_}
 use Prim.Native.Nat.{ℕ, zero, suc}

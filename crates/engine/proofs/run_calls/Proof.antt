@@ -1,30 +1,28 @@
 -- The labelled loops: after k calls the calls from k on are left, and within a call its operations from j on.
 use Prim.Native.Nat.{_-_, _≤_, _<_}
 use native.Mathlib.Omega.{arith}
-use mathlib.Core.Path.{_≡_, refl}
+use mathlib.Core.Path.{_≡_, refl, _∙_}
 use mathlib.Core.List.{[], map}
 use lib.ListN.{length}
 use borrow.Author.Needs.{needs}
-use Rattle.buslist.specs.Table.{call-count, operation-at, entries}
-use Rattle.buslist.specs.Meaning.{operation-of, calls-of}
-use Rattle.buslist.proofs.Accept.{call-address}
+use Rattle.buslist.specs.Table.{call-count}
+use Rattle.buslist.specs.Meaning.{calls-of}
+use Rattle.buslist.specs.Next.{operations-from}
+use Rattle.buslist.proofs.Accept.{call-address, call-within}
 use Rattle.registers.specs.declared.Outcome.{Outcome}
 use Rattle.registers.specs.State.{at}
 use Rattle.registers.specs.Contract.{Reaches}
 use Rattle.registers.proofs.Steps.{here, rewritten, call-step, call-stops, call-last, keeps-fewer}
-use Rattle.engine.specs.Calls.{engine-of, early, steps-of, operations-steps}
-use Rattle.engine.specs.Whole.{Left}
-use Rattle.engine.proofs.CallLaws.{calls-start, call-stops-run, next-call, calls-end, operations-next, operations-done, calls-from, calls-all, calls-next, calls-none, left-rewritten}
+use Rattle.engine.specs.Calls.{steps-of}
+use Rattle.engine.specs.Whole.{rest-steps, Left}
+use Rattle.engine.proofs.CallLaws.{calls-start, call-stops-run, next-call, calls-end, operations-done, calls-from, calls-all, calls-next, calls-none, left-rewritten}
 use Rattle.engine.proofs.run_calls.Statement.{statement}
 use Rattle.engine.proofs.run_calls.Tie as tie
 
 abbrev Inv-loop : tie.InvT-loop
 Inv-loop list readings rx₀ log₀ setup calls call-start operation-start progress₀ k call end j₀ previous₀ rx log progress j previous =
-    Reaches setup
-    (operations-steps setup (engine-of (call .kind)) (early (call .kind)) (call .address) previous₀ (map (operation-of list) (entries (operation-at list) j₀ (end - j₀))))
-    (at readings log₀ rx₀ progress₀)
-    (operations-steps setup (engine-of (call .kind)) (early (call .kind)) (call .address) previous (map (operation-of list) (entries (operation-at list) j (end - j))))
-    (at readings log rx progress)
+    Reaches setup (rest-steps setup call previous₀ (operations-from list j₀ end)) (at readings log₀ rx₀ progress₀)
+    (rest-steps setup call previous (operations-from list j end)) (at readings log rx progress)
     × (length rx ≡ length rx₀) × (length log ≡ length log₀) × (progress .got ≤ progress .used)
 
 abbrev μ-loop : tie.MeasureT-loop
@@ -71,15 +69,24 @@ cast-j c = search needs
 loop-holds : tie.Need-loop-holds Inv-loop μ-loop Inv-calls μ-calls
 loop-holds c = (here, refl, refl, c .before .before .before .before .before .calls .inv .3)
 
-operation-at-requires : tie.Need-operation-at-requires Inv-loop μ-loop Inv-calls μ-calls
-operation-at-requires c κs = search needs
-
-add-operation : tie.Need-add-operation Inv-loop μ-loop Inv-calls μ-calls
-add-operation c = search needs
+operation-from-requires : tie.Need-operation-from-requires Inv-loop μ-loop Inv-calls μ-calls
+operation-from-requires c κs =
+    let at-call-at = c .before .before .before .before .before in
+    let at-calls-test = at-call-at .before in
+    let at-calls = at-calls-test .before in
+    let at-operation-offset = at-calls .before in
+    let at-call-count = at-operation-offset .before .before in
+    let at-start = at-call-count .before .before .before .before .before in
+    let h : at-calls .calls .k < call-count (at-start .args .list .now) = omega (arith, at-calls-test .calls-test .taken, at-call-count .call-count .ensures) in (
+      at-operation-offset .operation-offset .ensures,
+      c .loop-test .taken,
+      rw (at-call-at .call-at .ensures) (call-within _ _ (at-start .pre .0) _ h),
+      (_, at-start .pre .0),
+    )
 
 operation-requires : tie.Need-operation-requires Inv-loop μ-loop Inv-calls μ-calls
 operation-requires c κs =
-    let at-loop = c .before .before .before .before in
+    let at-loop = c .before .before .before .before .before .before in
     let at-call-at = at-loop .before .before .before .before in
     let at-calls-test = at-call-at .before in
     let at-calls = at-calls-test .before in
@@ -94,25 +101,19 @@ enum-known-outcome c = search needs
 moved-requires : tie.Need-moved-requires Inv-loop μ-loop Inv-calls μ-calls
 moved-requires c κs = search needs
 
-add-j : tie.Need-add-j Inv-loop μ-loop Inv-calls μ-calls
-add-j c =
-    let at-loop-test = c .before .before .before .before .before .before .before .before .before .before .before .before in
-    let at-struct-known2 = at-loop-test .before .before .before in
-    let at-struct-known = at-struct-known2 .before in
-    omega (arith, at-loop-test .loop-test .taken, at-struct-known2 .struct-known2 .given, at-struct-known .struct-known .given)
-
 loop-less : tie.Need-loop-less Inv-loop μ-loop Inv-calls μ-calls
-loop-less c = search needs
+loop-less c =
+    let takes = c .before .before .before .before .before .before .before .before .before .before .before .before .before .operation-from .ensures in
+    omega (arith, takes .some, takes .most)
 
 loop-again : tie.Need-loop-again Inv-loop μ-loop Inv-calls μ-calls
 loop-again c =
     let at-outcome = c .before .before in
     let at-operation = at-outcome .before .before .before .before .before .before in
-    let at-operation-at = at-operation .before .before .before in
-    let at-loop-test = at-operation-at .before in
-    let at-loop = at-loop-test .before in (
+    let at-operation-from = at-operation .before .before .before .before .before in
+    let at-loop = at-operation-from .before .before in (
       call-step (at-operation .operation .ensures) _
-          (rewritten (operations-next _ _ _ _ _ _ _ _ _ (at-loop-test .loop-test .taken) (at-operation-at .operation-at .ensures) (c .moved .ensures)) (at-loop .loop .inv .0))
+          (rewritten (at-operation-from .operation-from .ensures .first _ _ ∙ rw (c .moved .ensures)) (at-loop .loop .inv .0))
           (at-outcome .outcome .given .1),
       omega (arith, at-operation .operation .kept),
       omega (arith, at-operation .operation .kept),
@@ -139,7 +140,7 @@ calls-again c =
     let at-call-at = at-loop .before .before .before .before in
     let at-calls-test = at-call-at .before in
     let at-calls = at-calls-test .before in
-    let done = call-last (rewritten (operations-done _ _ _ _ _ _ _ _ _ (at-loop-test .loop-test .left)) (at-loop .loop .inv .0)) (at-end-call .end-call .ensures _) in (
+    let done = call-last (rewritten (operations-done _ _ (at-call-at .call-at .result) _ _ _ (at-loop-test .loop-test .left)) (at-loop .loop .inv .0)) (at-end-call .end-call .ensures _) in (
       next-call (left-rewritten (calls-next _ _ _ _ _ (at-calls-test .calls-test .taken) (at-call-at .call-at .ensures) refl) (at-calls .calls .inv .0)) done
           (c .before .outcome2 .given .1),
       omega arith,
@@ -159,23 +160,30 @@ returns c =
     rw (c .before .calls .inv .4) (calls-end (left-rewritten (calls-none _ _ _ _ (c .calls-test .left)) (c .before .calls .inv .0)))
 
 same-length-3 : tie.Need-same-length-3 Inv-loop μ-loop Inv-calls μ-calls
-same-length-3 c = search needs
+same-length-3 c =
+    let at-operation = c .before .before .before .before .before in
+    let at-loop = at-operation .before .before .before .before .before .before .before in
+    let at-calls = at-loop .before .before .before .before .before .before in
+    omega (arith, at-operation .operation .kept, at-loop .loop .inv, at-calls .calls .inv)
 
 same-length-4 : tie.Need-same-length-4 Inv-loop μ-loop Inv-calls μ-calls
-same-length-4 c = search needs
+same-length-4 c =
+    let at-operation = c .before .before .before .before .before in
+    let at-loop = at-operation .before .before .before .before .before .before .before in
+    let at-calls = at-loop .before .before .before .before .before .before in
+    omega (arith, at-operation .operation .kept, at-loop .loop .inv, at-calls .calls .inv)
 
 returns-2 : tie.Need-returns-2 Inv-loop μ-loop Inv-calls μ-calls
 returns-2 c =
     let at-operation = c .before .before .before .before .before in
-    let at-operation-at = at-operation .before .before .before in
-    let at-loop-test = at-operation-at .before in
-    let at-loop = at-loop-test .before in
+    let at-operation-from = at-operation .before .before .before .before .before in
+    let at-loop = at-operation-from .before .before in
     let at-call-at = at-loop .before .before .before .before in
     let at-calls-test = at-call-at .before in
     let at-calls = at-calls-test .before in
     call-stops-run (left-rewritten (calls-next _ _ _ _ _ (at-calls-test .calls-test .taken) (at-call-at .call-at .ensures) refl) (at-calls .calls .inv .0))
     (call-stops (at-operation .operation .ensures) _
-    (rewritten (operations-next _ _ _ _ _ _ _ _ _ (at-loop-test .loop-test .taken) (at-operation-at .operation-at .ensures) refl) (at-loop .loop .inv .0)) (c .match .keys2))
+    (rewritten (at-operation-from .operation-from .ensures .first _ _) (at-loop .loop .inv .0)) (c .match .keys2))
     (c .match .keys2)
 
 same-length-5 : tie.Need-same-length-5 Inv-loop μ-loop Inv-calls μ-calls
@@ -193,7 +201,7 @@ returns-3 c =
     let at-calls-test = at-call-at .before in
     let at-calls = at-calls-test .before in
     call-stops-run (left-rewritten (calls-next _ _ _ _ _ (at-calls-test .calls-test .taken) (at-call-at .call-at .ensures) refl) (at-calls .calls .inv .0))
-    (call-last (rewritten (operations-done _ _ _ _ _ _ _ _ _ (at-loop-test .loop-test .left)) (at-loop .loop .inv .0)) (at-end-call .end-call .ensures _))
+    (call-last (rewritten (operations-done _ _ (at-call-at .call-at .result) _ _ _ (at-loop-test .loop-test .left)) (at-loop .loop .inv .0)) (at-end-call .end-call .ensures _))
     (c .match2 .keys2)
 
 pub run-calls-spec : {M : Type 1} → statement M
@@ -214,12 +222,10 @@ run-calls-spec =
     add-end
     cast-j
     loop-holds
-    operation-at-requires
-    add-operation
+    operation-from-requires
     operation-requires
     enum-known-outcome
     moved-requires
-    add-j
     loop-less
     loop-again
     end-call-requires

@@ -1,6 +1,5 @@
-use Rattle.engine.specs.Whole.{empty}
+use Rattle.buslist.specs.Meaning.{Operation, empty, operation-of}
 use Rattle.buslist.proofs.Accept.{operation-write}
-use Rattle.buslist.specs.Meaning.{Operation, operation-of}
 use borrow.Author.Tests.{ne-eqb}
 use lib.Dec.{eqb, eqb·suc-zero}
 use lib.ListN.{length}
@@ -8,8 +7,8 @@ use mathlib.Core.List.{List, [], _∷_}
 use Prim.Native.Nat.{ℕ, zero, suc}
 use mathlib.Core.Path.{_≡_, refl}
 use borrow.Author.Needs.{needs}
-use Rattle.engine.proofs.is_empty.Statement.{statement}
-use Rattle.engine.proofs.is_empty.Tie as tie
+use Rattle.buslist.proofs.is_empty.Statement.{statement}
+use Rattle.buslist.proofs.is_empty.Tie as tie
 
 no-bytes : (l : List ℕ) → eqb (length l) 0 ≡ empty (Operation.write l)
 no-bytes [] = refl
