@@ -6,5 +6,6 @@ pub mod Apart
 pub mod Reduced
 pub mod Listed
 pub mod Demand3
+pub mod ByKind
 pub mod Corollaries
 pub mod Witness

@@ -11,7 +11,7 @@ use lib.Dec.{eqb}
 use Rattle.buslist.specs.Table.{call-count, operation-count, call-at, operation-at, entries}
 use Rattle.buslist.specs.Form.{has-directions, kind-right}
 use Rattle.buslist.specs.Refusal.{any, empty-blocking, write-after-read, refusal}
-use Rattle.buslist.specs.Meaning.{write, read, Call, operation-of, calls-of}
+use Rattle.buslist.specs.Meaning.{write, read, Call, operation-of, call-of, calls-of}
 use Rattle.buslist.specs.Combined.{combined, read-then-write}
 use Rattle.buslist.proofs.Walk.{one-direction, two-directions}
 use Rattle.buslist.proofs.Accept.{accepted, entry-fails, write-within, call-within, call-operations, call-kind, operation-write, operation-read}
@@ -79,14 +79,15 @@ unfolding entries
 all-entries P f entry j zero h = none
 all-entries P f entry j (suc n) h = more (h j (omega arith)) (all-entries P f entry (j + 1) n (λ k below. h k (omega arith)))
 
--- each call of an accepted list has the operations of its kind
-pub of-kind : (l : List ℕ) (rx : ℕ) → refusal l rx ≡ 0 → All OfKind (calls-of l)
-of-kind l rx ok =
-    all-entries OfKind _ (call-at l) 0 (call-count l) (λ k below.
-    let h : k < call-count l = omega arith in
+-- call k of an accepted list has the operations of its kind, and so have all
+pub of-kind-at : (l : List ℕ) (rx : ℕ) → refusal l rx ≡ 0 → (k : ℕ) → k < call-count l → OfKind (call-of l (call-at l k))
+of-kind-at l rx ok k h =
     shaped l rx ok _ _ _ (call-kind l rx ok k h) (call-within l rx ok k h) (call-operations l rx ok k h)
     (entry-fails (empty-blocking l) (call-at l) (call-count l) k (accepted l rx ok .blocking) h)
-    (entry-fails (write-after-read l) (call-at l) (call-count l) k (accepted l rx ok .combined) h))
+    (entry-fails (write-after-read l) (call-at l) (call-count l) k (accepted l rx ok .combined) h)
+
+pub of-kind : (l : List ℕ) (rx : ℕ) → refusal l rx ≡ 0 → All OfKind (calls-of l)
+of-kind l rx ok = all-entries OfKind _ (call-at l) 0 (call-count l) (λ k below. of-kind-at l rx ok k (omega arith))
 
 -- a test that fails, with all after it
 or-fails : (a b : Bool) → (a || b) ≡ false → Fails a × (b ≡ false)

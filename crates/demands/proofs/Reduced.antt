@@ -152,7 +152,7 @@ one-write b bs (read zero ∷ os) h = one-write b bs os h
 one-write b bs (read (suc n) ∷ os) h = rw (one-read n os h .1) (Halves.write-first Tail.read-after)
 
 -- so they are a write, a read, or both, where anything is left
-halves : (os : List Operation) → Fails (read-then-write (combined os)) → Fails (is-empty (dropped os)) → Halves (combined os)
+pub halves : (os : List Operation) → Fails (read-then-write (combined os)) → Fails (is-empty (dropped os)) → Halves (combined os)
 unfolding joined dropped
 halves [] h b = absurd b
 halves (write [] ∷ os) h b = halves os h b

@@ -14,7 +14,7 @@ use Rattle.buslist.specs.Encode.{encode}
 use Rattle.registers.specs.Access.{record-of, received-of}
 use Rattle.registers.specs.Machine.{poll-word, start, poll-error, poll-ready, after-poll, flat}
 use Rattle.i2c.specs.Polling.{read-bytes}
-use Rattle.blocking.specs.Blocking.{later-bytes, write-bytes-and-wait, write-without-stop, read-steps, close-after, blocking-steps}
+use Rattle.blocking.specs.Blocking.{later-bytes, write-bytes-and-wait, write-without-stop, receive-bytes, read-arm, read-steps, close-after, blocking-steps}
 use Rattle.engine.specs.Run.{run}
 use Rattle.demands.specs.Compare.{reduced-operations, reduced, idle, ends-empty, polls-empty-read, settings-words, Accepted, Comparable, Reduced, reduced-calls, SameRun}
 use Rattle.demands.specs.Examples.{settings, call-to, computed, ran}
@@ -63,12 +63,35 @@ empty-read = call-to 3 (read 1 ∷ read 0 ∷ [])
 abbrev full-read : Call
 full-read = call-to 1 (read 1 ∷ [])
 
--- the two idle calls: a transaction without operations, and a blocking write_read with both halves empty
+-- calls of kind 7 in several parts, empty ones among them: a write, one with another byte, a read, and both
+abbrev combined-write : Call
+combined-write = call-to 7 (write (1 ∷ []) ∷ read 0 ∷ write (2 ∷ []) ∷ [])
+
+abbrev combined-other : Call
+combined-other = call-to 7 (write (1 ∷ []) ∷ write (3 ∷ []) ∷ write [] ∷ [])
+
+abbrev combined-read : Call
+combined-read = call-to 7 (write [] ∷ read 1 ∷ read 1 ∷ [])
+
+abbrev combined-both : Call
+combined-both = call-to 7 (read 0 ∷ write (1 ∷ []) ∷ write (2 ∷ []) ∷ read 1 ∷ write [] ∷ [])
+
+-- the blocking read and the write_read that the last two are
+abbrev blocking-two : Call
+blocking-two = call-to 5 (read 2 ∷ [])
+
+abbrev blocking-both : Call
+blocking-both = call-to 6 (write (1 ∷ 2 ∷ []) ∷ read 1 ∷ [])
+
+-- the idle calls: a transaction without operations, a blocking write_read with both halves empty, and a kind 7 call with nothing left
 abbrev no-operations : Call
 no-operations = call-to 3 []
 
 abbrev empty-halves : Call
 empty-halves = call-to 6 (write [] ∷ read 0 ∷ [])
+
+abbrev nothing-left : Call
+nothing-left = call-to 7 (read 0 ∷ write [] ∷ [])
 
 -- a list for both engines, and one with equal reduced calls
 abbrev both : List ℕ
@@ -77,7 +100,8 @@ both = list-of (two-writes ∷ empty-half ∷ [])
 abbrev both′ : List ℕ
 both′ = list-of (one-write ∷ blocking-one ∷ [])
 
--- readings on which the calls end well, after the bring-up's 0: of a polling write, a blocking write, and a polling read after a write
+-- readings on which the calls end well, after the bring-up's 0: of a polling write, a blocking write, and a polling read after a write;
+-- of a blocking read of two bytes, and a blocking read of one after a write
 abbrev polled : List ℕ
 polled = 1 ∷ 1 ∷ 1 ∷ 1 ∷ 3 ∷ 2 ∷ 7 ∷ 0x80 ∷ 0x84 ∷ 0x80 ∷ 0x84 ∷ 1 ∷ 1 ∷ []
 
@@ -88,9 +112,16 @@ abbrev turned : List ℕ
 turned =
     1 ∷ 1 ∷ 1 ∷ 1 ∷ 3 ∷ 2 ∷ 7 ∷ 0x80 ∷ 0x84 ∷ 1 ∷ 1 ∷ 1 ∷ 3 ∷ 2 ∷ 2 ∷ 7 ∷ 0x40 ∷ 0x40 ∷ 0x2a ∷ 1 ∷ 0x40 ∷ 0x40 ∷ 0x2b ∷ 1 ∷ []
 
+abbrev timed-read : List ℕ
+timed-read = 1 ∷ 0 ∷ 1 ∷ 1 ∷ 0 ∷ 2 ∷ 1 ∷ 2 ∷ 7 ∷ 1 ∷ 0 ∷ 0x44 ∷ 1 ∷ 0x2a ∷ 0x2b ∷ 0 ∷ 1 ∷ 1 ∷ 1 ∷ []
+
+abbrev timed-both : List ℕ
+timed-both =
+    1 ∷ 0 ∷ 1 ∷ 1 ∷ 0 ∷ 2 ∷ 2 ∷ 7 ∷ 0 ∷ 0x80 ∷ 0 ∷ 0x84 ∷ 1 ∷ 0 ∷ 1 ∷ 1 ∷ 0 ∷ 2 ∷ 1 ∷ 2 ∷ 7 ∷ 1 ∷ 0 ∷ 0x40 ∷ 0x2a ∷ 0 ∷ 1 ∷ 1 ∷ []
+
 -- names all that these compute by
 computed-by : List ℕ → List ℕ → ℕ
-unfolding computed ran reduced-operations reduced idle ends-empty polls-empty-read read-bytes poll-word poll-error poll-ready after-poll start blocking-steps later-bytes write-bytes-and-wait write-without-stop read-steps close-after
+unfolding computed ran reduced-operations reduced idle ends-empty polls-empty-read read-bytes poll-word poll-error poll-ready after-poll start blocking-steps later-bytes write-bytes-and-wait write-without-stop receive-bytes read-arm read-steps close-after
 computed-by l readings = run l readings 0 100 .answer
 
 -- two unlike lists that are compared, with equal reduced calls, and a received buffer of rx bytes
@@ -149,12 +180,22 @@ pub record Witness : Type 0 where
   -- a pair of lists that have a call for each engine
   pub both-pair : Alike both both′ 0
   pub both-ends : EndWell both both′ 0 (0 ∷ polled ++ timed)
-  -- one pair for each engine that its records tell apart
+  -- kind 7 against each of kinds 4, 5 and 6
+  pub write-pair : Alike (alone combined-write) (alone blocking-one) 0
+  pub write-ends : EndWell (alone combined-write) (alone blocking-one) 0 (0 ∷ timed)
+  pub read-pair : Alike (alone combined-read) (alone blocking-two) 2
+  pub read-ends : EndWell (alone combined-read) (alone blocking-two) 2 (0 ∷ timed-read)
+  pub read-bytes : received-of (flat (run (alone combined-read) (0 ∷ timed-read) 2 100 .log)) ≡ 0x2a ∷ 0x2b ∷ []
+  pub write-read-pair : Alike (alone combined-both) (alone blocking-both) 1
+  pub write-read-ends : EndWell (alone combined-both) (alone blocking-both) 1 (0 ∷ timed-both)
+  -- one pair for each engine that its records tell apart, and two calls of kind 7
   pub polling-unlike : Unlike (alone one-write) (alone other-write) 0 (0 ∷ polled)
   pub blocking-unlike : Unlike (alone blocking-one) (alone blocking-other) 0 (0 ∷ timed)
+  pub combined-unlike : Unlike (alone combined-write) (alone combined-other) 0 (0 ∷ timed)
   -- why no call may be idle: for each idle call, a list with it and one without
   pub idle-transaction : NotTold (list-of (one-write ∷ no-operations ∷ [])) (alone one-write) (0 ∷ polled)
   pub idle-write-read : NotTold (list-of (one-write ∷ empty-halves ∷ [])) (alone one-write) (0 ∷ polled)
+  pub idle-combined : NotTold (list-of (one-write ∷ nothing-left ∷ [])) (alone one-write) (0 ∷ polled)
   -- why no polling call may end in an empty read
   pub empty-last-read : NotSame (alone empty-read) (alone full-read) 1 (0 ∷ polled)
 
@@ -224,10 +265,19 @@ witness =
       reading-bytes = refl;
       both-pair = alike (omega arith) refl refl refl refl refl refl;
       both-ends = record { full = refl; full′ = refl; ends = refl; ends′ = refl };
+      write-pair = alike (omega arith) refl refl refl refl refl refl;
+      write-ends = record { full = refl; full′ = refl; ends = refl; ends′ = refl };
+      read-pair = alike (omega arith) refl refl refl refl refl refl;
+      read-ends = record { full = refl; full′ = refl; ends = refl; ends′ = refl };
+      read-bytes = refl;
+      write-read-pair = alike (omega arith) refl refl refl refl refl refl;
+      write-read-ends = record { full = refl; full′ = refl; ends = refl; ends′ = refl };
       polling-unlike = unlike (omega arith) refl refl refl refl refl refl refl;
       blocking-unlike = unlike (omega arith) refl refl refl refl refl refl refl;
+      combined-unlike = unlike (omega arith) refl refl refl refl refl refl refl;
       idle-transaction = not-told (omega arith) refl refl refl refl refl refl refl refl;
       idle-write-read = not-told (omega arith) refl refl refl refl refl refl refl refl;
+      idle-combined = not-told (omega arith) refl refl refl refl refl refl refl refl;
       empty-last-read =
           record {
             alike = alike (omega arith) refl refl refl refl refl refl;

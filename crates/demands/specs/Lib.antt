@@ -2,3 +2,4 @@ pub mod Demand1
 pub mod Compare
 pub mod Corollaries
 pub mod Examples
+pub mod ByKind
