@@ -70,9 +70,9 @@ fn short_sequences() -> Vec<Vec<Operation>> {
 
 /// Readings with every flag set, but now and then one that shows none, or an error flag.
 fn drawn_readings(draw: &mut Draw) -> Vec<u32> {
-    let reading = |_| match draw.below(60) {
-        0..4 => 0,
-        4 => READY | 0x100 << draw.below(4),
+    let reading = |_| match draw.below(40) {
+        0..2 => 0,
+        2 => READY | 0x100 << draw.below(4),
         _ => READY,
     };
     (0..200).map(reading).collect()
