@@ -106,6 +106,7 @@ fn drawn_lists_go_round() {
     let mut draw = Draw(7);
     let mut accepted = 0;
     let mut refused = 0;
+    let mut after_read = 0;
     for _ in 0..2000 {
         let list = drawn_list(&mut draw);
         let bytes = list.to_bytes().expect("it fits");
@@ -122,12 +123,13 @@ fn drawn_lists_go_round() {
             Some(refusal) => {
                 assert!(!matches!(refusal, Refusal::Form | Refusal::ReceivedBuffer));
                 refused += 1;
+                after_read += usize::from(refusal == Refusal::WriteAfterRead);
             }
         }
     }
     assert!(
-        accepted > 500 && refused > 500,
-        "{accepted} accepted, {refused} refused"
+        accepted > 500 && refused > 500 && after_read > 20,
+        "{accepted} accepted, {refused} refused, {after_read} for a write after a read"
     );
 }
 
