@@ -29,24 +29,25 @@ extern "C" {
 
 /* How a run ended. From 20 on the list was refused before any access; the first cause that applies is the answer. */
 enum vandhukril_answer {
-    VANDHUKRIL_WELL = 0,                    /* every call ended well */
-    VANDHUKRIL_OVERRUN = 1,                 /* OVR was set, or a polling call ends in a read of length 0 */
-    VANDHUKRIL_NO_ACKNOWLEDGE_ADDRESS = 2,  /* AF: the address; in a polling write also before a byte is sent */
-    VANDHUKRIL_NO_ACKNOWLEDGE_DATA = 3,     /* AF: a data byte */
-    VANDHUKRIL_NO_ACKNOWLEDGE_UNKNOWN = 4,  /* AF before an address was sent */
-    VANDHUKRIL_TIMEOUT = 5,                 /* TIMEOUT was set in a polling call, or a blocking wait reached its limit */
-    VANDHUKRIL_BUS = 6,                     /* BERR was set in a blocking call */
-    VANDHUKRIL_CRC = 7,                     /* PECERR was set in a polling call */
-    VANDHUKRIL_ARBITRATION_LOSS = 8,        /* ARLO was set */
-    VANDHUKRIL_NO_READINGS = 9,             /* the next access is a read and every reading is used */
-    VANDHUKRIL_NO_RECORD = 10,              /* fewer than two record words remain for the next access */
-    VANDHUKRIL_REFUSED_FORM = 20,           /* the list is not of the form */
-    VANDHUKRIL_REFUSED_LIMIT = 21,          /* over 32,768 bytes, 256 calls, 1,024 operations or 4,096 bytes in one */
-    VANDHUKRIL_REFUSED_FREQUENCY = 22,      /* the frequency is 0 or above 400,000 Hz */
-    VANDHUKRIL_REFUSED_TIMEOUT = 23,        /* a timeout is too long for 32 bits of cycles */
-    VANDHUKRIL_REFUSED_ADDRESS = 24,        /* an address has ten bits, or is above 127 */
-    VANDHUKRIL_REFUSED_EMPTY_BLOCKING = 25, /* a blocking write or a blocking read has length 0 */
-    VANDHUKRIL_REFUSED_RECEIVED_BUFFER = 26 /* all reads together are longer than the received buffer */
+    VANDHUKRIL_WELL = 0,                     /* every call ended well */
+    VANDHUKRIL_OVERRUN = 1,                  /* OVR was set, or a polling call ends in a read of length 0 */
+    VANDHUKRIL_NO_ACKNOWLEDGE_ADDRESS = 2,   /* AF: the address; in a polling write also before a byte is sent */
+    VANDHUKRIL_NO_ACKNOWLEDGE_DATA = 3,      /* AF: a data byte */
+    VANDHUKRIL_NO_ACKNOWLEDGE_UNKNOWN = 4,   /* AF before an address was sent */
+    VANDHUKRIL_TIMEOUT = 5,                  /* TIMEOUT was set in a polling call, or a blocking wait took too long */
+    VANDHUKRIL_BUS = 6,                      /* BERR was set in a blocking call */
+    VANDHUKRIL_CRC = 7,                      /* PECERR was set in a polling call */
+    VANDHUKRIL_ARBITRATION_LOSS = 8,         /* ARLO was set */
+    VANDHUKRIL_NO_READINGS = 9,              /* the next access is a read and every reading is used */
+    VANDHUKRIL_NO_RECORD = 10,               /* fewer than two record words remain for the next access */
+    VANDHUKRIL_REFUSED_FORM = 20,            /* the list is not of the form */
+    VANDHUKRIL_REFUSED_LIMIT = 21,           /* over 32,768 bytes, 256 calls, 1,024 operations or 4,096 bytes in one */
+    VANDHUKRIL_REFUSED_FREQUENCY = 22,       /* the frequency is 0 or above 400,000 Hz */
+    VANDHUKRIL_REFUSED_TIMEOUT = 23,         /* a timeout is too long for 32 bits of cycles */
+    VANDHUKRIL_REFUSED_ADDRESS = 24,         /* an address has ten bits, or is above 127 */
+    VANDHUKRIL_REFUSED_EMPTY_BLOCKING = 25,  /* a blocking write or a blocking read has length 0 */
+    VANDHUKRIL_REFUSED_RECEIVED_BUFFER = 26, /* all reads together are longer than the received buffer */
+    VANDHUKRIL_REFUSED_WRITE_AFTER_READ = 27 /* a blocking transaction has a read, then a write, empty ones left out */
 };
 
 /* The first word of an access: which register, read or written. The codes of reads are below those of writes. */

@@ -1,4 +1,4 @@
-//! How a run can end other than well, with the scope paper's numbers and words.
+//! How a run can end other than well, with the papers' numbers and words.
 
 use std::fmt;
 
@@ -43,7 +43,7 @@ pub enum Cause {
     ReadingsUsed,
     /// 10: fewer than two record words remain for the next access.
     RecordFull,
-    /// 20 to 26: the list was refused before any access.
+    /// 20 to 27: the list was refused before any access.
     Refused(Refusal),
     /// A number that this crate does not know: the linked library does not belong to this version of the crate.
     Other(u32),
@@ -77,11 +77,13 @@ pub enum Refusal {
     EmptyBlocking,
     /// 26: the received buffer is shorter than all reads together.
     ReceivedBuffer,
+    /// 27: in a blocking transaction a read is followed by a write, empty operations left out.
+    WriteAfterRead,
 }
 
 impl Cause {
     /// Every cause with a number of its own, in the order of their numbers.
-    pub const ALL: [Cause; 17] = [
+    pub const ALL: [Cause; 18] = [
         Cause::Overrun,
         Cause::NoAcknowledge(NoAcknowledge::Address),
         Cause::NoAcknowledge(NoAcknowledge::Data),
@@ -99,6 +101,7 @@ impl Cause {
         Cause::Refused(Refusal::Address),
         Cause::Refused(Refusal::EmptyBlocking),
         Cause::Refused(Refusal::ReceivedBuffer),
+        Cause::Refused(Refusal::WriteAfterRead),
     ];
 
     /// The number that the engine answers for this cause.
@@ -130,7 +133,7 @@ impl Cause {
         Some(known.unwrap_or(Cause::Other(number)))
     }
 
-    /// The scope paper's words for this cause.
+    /// The papers' words for this cause.
     pub const fn words(self) -> &'static str {
         match self {
             Cause::Overrun => "Overrun",
@@ -215,10 +218,11 @@ impl Refusal {
             Refusal::Address => 24,
             Refusal::EmptyBlocking => 25,
             Refusal::ReceivedBuffer => 26,
+            Refusal::WriteAfterRead => 27,
         }
     }
 
-    /// The scope paper's words for this refusal.
+    /// The papers' words for this refusal.
     pub const fn words(self) -> &'static str {
         match self {
             Refusal::Form => "list not of the form",
@@ -233,6 +237,9 @@ impl Refusal {
                 "blocking write (kind 4) or blocking read (kind 5) of length 0"
             }
             Refusal::ReceivedBuffer => "received buffer shorter than all reads together",
+            Refusal::WriteAfterRead => {
+                "a kind 7 call in which a read is followed by a write after joining"
+            }
         }
     }
 
@@ -263,6 +270,10 @@ impl Refusal {
             }
             Refusal::ReceivedBuffer => {
                 "Run the list with a received buffer that holds the bytes of all its reads, or read less."
+            }
+            Refusal::WriteAfterRead => {
+                "A read followed by a write cannot be done without losing the bus between them. \
+                 Put the write first, or make two calls."
             }
         }
     }
@@ -372,11 +383,13 @@ mod tests {
     use super::*;
 
     #[test]
-    fn numbers_are_those_of_the_paper() {
+    fn numbers_are_those_of_the_papers() {
         let numbers = Cause::ALL.map(Cause::number);
         assert_eq!(
             numbers,
-            [1, 2, 3, 4, 5, 6, 7, 8, 9, 10, 20, 21, 22, 23, 24, 25, 26]
+            [
+                1, 2, 3, 4, 5, 6, 7, 8, 9, 10, 20, 21, 22, 23, 24, 25, 26, 27
+            ]
         );
         for cause in Cause::ALL {
             assert_eq!(Cause::from_number(cause.number()), Some(cause));
@@ -386,7 +399,7 @@ mod tests {
     #[test]
     fn other_numbers_are_kept() {
         assert_eq!(Cause::from_number(0), None);
-        for number in [11, 19, 27, u32::MAX] {
+        for number in [11, 19, 28, u32::MAX] {
             assert_eq!(Cause::from_number(number), Some(Cause::Other(number)));
         }
     }

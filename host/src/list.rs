@@ -31,11 +31,13 @@ pub enum Kind {
     BlockingRead,
     /// 6: blocking, a write then a read.
     BlockingWriteRead,
+    /// 7: blocking, any operations.
+    BlockingTransaction,
 }
 
 impl Kind {
     /// Every kind, in the order of their numbers.
-    pub const ALL: [Kind; 7] = [
+    pub const ALL: [Kind; 8] = [
         Kind::Write,
         Kind::Read,
         Kind::WriteRead,
@@ -43,6 +45,7 @@ impl Kind {
         Kind::BlockingWrite,
         Kind::BlockingRead,
         Kind::BlockingWriteRead,
+        Kind::BlockingTransaction,
     ];
 
     /// The number that stands for the kind in a bus list.
@@ -55,6 +58,7 @@ impl Kind {
             Kind::BlockingWrite => 4,
             Kind::BlockingRead => 5,
             Kind::BlockingWriteRead => 6,
+            Kind::BlockingTransaction => 7,
         }
     }
 
@@ -66,7 +70,10 @@ impl Kind {
     fn is_blocking(self) -> bool {
         match self {
             Kind::Write | Kind::Read | Kind::WriteRead | Kind::Transaction => false,
-            Kind::BlockingWrite | Kind::BlockingRead | Kind::BlockingWriteRead => true,
+            Kind::BlockingWrite
+            | Kind::BlockingRead
+            | Kind::BlockingWriteRead
+            | Kind::BlockingTransaction => true,
         }
     }
 }
@@ -81,6 +88,7 @@ impl fmt::Display for Kind {
             Kind::BlockingWrite => "blocking write",
             Kind::BlockingRead => "blocking read",
             Kind::BlockingWriteRead => "blocking write_read",
+            Kind::BlockingTransaction => "blocking transaction",
         })
     }
 }
@@ -305,6 +313,49 @@ impl BusList<Settings> {
         )
     }
 
+    /// Adds a blocking call of any operations (kind 7).
+    ///
+    /// Empty operations are dropped and neighbours of one direction are joined. What remains is done
+    /// as a blocking write, read or write_read. With nothing left the call makes no access and ends
+    /// well. The engine refuses a list in which a read is then followed by a write.
+    ///
+    /// ```
+    /// use vandhukril::Operation::{Read, Write};
+    /// use vandhukril::{BusList, Hertz, Micros, Mode, Refusal, Settings, explain};
+    ///
+    /// let settings = Settings {
+    ///     pclk1: Hertz(36_000_000),
+    ///     sysclk: Hertz(72_000_000),
+    ///     mode: Mode::Standard,
+    ///     frequency: Hertz(100_000),
+    ///     start_timeout: Micros(1000),
+    ///     start_retries: 3,
+    ///     address_timeout: Micros(1000),
+    ///     data_timeout: Micros(1000),
+    /// };
+    /// // One write of two bytes, then one read of three.
+    /// let mut list = BusList::new(settings);
+    /// list.blocking_transaction(0x50, [Write(vec![0]), Write(vec![0x1f]), Read(1), Read(2)]);
+    /// assert!(explain(&list.to_bytes()?, list.received_length()).is_ok());
+    ///
+    /// let mut list = BusList::new(settings);
+    /// list.blocking_transaction(0x50, [Read(1), Write(vec![0])]);
+    /// let fault = explain(&list.to_bytes()?, list.received_length()).unwrap_err();
+    /// assert_eq!(fault.refusal, Refusal::WriteAfterRead);
+    /// # Ok::<(), Box<dyn std::error::Error>>(())
+    /// ```
+    pub fn blocking_transaction(
+        &mut self,
+        address: impl Into<Address>,
+        operations: impl IntoIterator<Item = Operation>,
+    ) -> &mut Self {
+        self.push(
+            Kind::BlockingTransaction,
+            address,
+            operations.into_iter().collect(),
+        )
+    }
+
     /// Adds a call of another list.
     pub fn add(&mut self, call: Call) -> &mut Self {
         self.calls.push(call);
@@ -377,7 +428,7 @@ mod tests {
             assert_eq!(kind.number(), number);
             assert_eq!(Kind::from_number(number), Some(kind));
         }
-        assert_eq!(Kind::from_number(7), None);
+        assert_eq!(Kind::from_number(8), None);
     }
 
     #[test]
@@ -385,14 +436,16 @@ mod tests {
         let mut list = BusList::new(settings());
         list.write_read(0x50, &[0, 0x1f], 4)
             .transaction(Address::Ten(0x123), [])
-            .blocking_write(0x68, &[7]);
+            .blocking_write(0x68, &[7])
+            .blocking_transaction(0x69, [Operation::Write(vec![]), Operation::Read(2)]);
         assert_eq!(
             list.to_string(),
             "pclk1 36000000 Hz, sysclk 72000000 Hz, Standard 100000 Hz\n\
              timeouts: start 10 µs, address 20 µs, data 30 µs; start retries 3\n\
              polling write_read at 0x50: write 00 1f, read 4\n\
              polling transaction at 0x123 (ten-bit):\n\
-             blocking write at 0x68: write 07\n"
+             blocking write at 0x68: write 07\n\
+             blocking transaction at 0x69: write, read 2\n"
         );
     }
 

@@ -229,13 +229,13 @@ fn slices_from_the_middle_of_larger_buffers() {
     let list = every_kind();
     let bytes = list.to_bytes().expect("it fits");
     let needed = list.received_length();
-    let apart = run_with(&bytes, &[READY; 400], needed, 600);
+    let apart = run_with(&bytes, &[READY; 400], needed, 1000);
     let (record, received) = apart.written();
     // Bytes may start at any place; nothing outside the slices may change.
     for shift in 0..16 {
         let shifted: Vec<u8> = vec![0xff; shift].into_iter().chain(bytes.clone()).collect();
         let mut bytes_around = [OLD_BYTE; 100];
-        let mut words_around = [OLD_WORD; 800];
+        let mut words_around = [OLD_WORD; 1000];
         let end = run(
             &shifted[shift..],
             &[READY; 400],
@@ -245,7 +245,7 @@ fn slices_from_the_middle_of_larger_buffers() {
         assert_eq!(end, apart.end);
         let mut expected_bytes = [OLD_BYTE; 100];
         expected_bytes[shift..shift + needed].copy_from_slice(received);
-        let mut expected_words = [OLD_WORD; 800];
+        let mut expected_words = [OLD_WORD; 1000];
         expected_words[shift..shift + record.len()].copy_from_slice(record);
         assert_eq!(bytes_around, expected_bytes);
         assert_eq!(words_around, expected_words);
@@ -258,13 +258,13 @@ fn many_threads_at_once() {
     let list = every_kind();
     let bytes = list.to_bytes().expect("it fits");
     let readings = [READY; 400];
-    let alone = run_with(&bytes, &readings, list.received_length(), 600);
+    let alone = run_with(&bytes, &readings, list.received_length(), 1000);
     thread::scope(|scope| {
         for _ in 0..4 {
             scope.spawn(|| {
                 for _ in 0..50 {
                     assert_eq!(
-                        run_with(&bytes, &readings, list.received_length(), 600),
+                        run_with(&bytes, &readings, list.received_length(), 1000),
                         alone
                     );
                 }

@@ -42,24 +42,25 @@ fn drawn_operation(draw: &mut Draw) -> Operation {
     }
 }
 
+fn drawn_operations(draw: &mut Draw) -> Vec<Operation> {
+    (0..draw.below(5)).map(|_| drawn_operation(draw)).collect()
+}
+
 fn drawn_list(draw: &mut Draw) -> BusList {
     let mut list = BusList::new(drawn_settings(draw));
     for _ in 0..draw.below(7) {
         let address = drawn_address(draw);
         let bytes = drawn_bytes(draw);
         let length = draw.below(6) as u16;
-        match draw.below(7) {
+        match draw.below(8) {
             0 => list.write(address, &bytes),
             1 => list.read(address, length),
             2 => list.write_read(address, &bytes, length),
-            3 => {
-                let count = draw.below(5);
-                let operations: Vec<_> = (0..count).map(|_| drawn_operation(draw)).collect();
-                list.transaction(address, operations)
-            }
+            3 => list.transaction(address, drawn_operations(draw)),
             4 => list.blocking_write(address, &bytes),
             5 => list.blocking_read(address, length),
-            _ => list.blocking_write_read(address, &bytes, length),
+            6 => list.blocking_write_read(address, &bytes, length),
+            _ => list.blocking_transaction(address, drawn_operations(draw)),
         };
     }
     list
@@ -105,6 +106,7 @@ fn drawn_lists_go_round() {
     let mut draw = Draw(7);
     let mut accepted = 0;
     let mut refused = 0;
+    let mut after_read = 0;
     for _ in 0..2000 {
         let list = drawn_list(&mut draw);
         let bytes = list.to_bytes().expect("it fits");
@@ -121,12 +123,13 @@ fn drawn_lists_go_round() {
             Some(refusal) => {
                 assert!(!matches!(refusal, Refusal::Form | Refusal::ReceivedBuffer));
                 refused += 1;
+                after_read += usize::from(refusal == Refusal::WriteAfterRead);
             }
         }
     }
     assert!(
-        accepted > 500 && refused > 500,
-        "{accepted} accepted, {refused} refused"
+        accepted > 500 && refused > 500 && after_read > 20,
+        "{accepted} accepted, {refused} refused, {after_read} for a write after a read"
     );
 }
 

@@ -3,7 +3,8 @@
 mod common;
 
 use common::{refusal, settings};
-use vandhukril::{Address, BusList, Hertz, Micros, Operation, Refusal, Settings, explain};
+use vandhukril::Operation::{Read, Write};
+use vandhukril::{Address, BusList, Hertz, Micros, Refusal, Settings, explain};
 
 /// A list that is accepted with a received buffer of two bytes.
 fn good() -> Vec<u8> {
@@ -59,7 +60,8 @@ const WRONG: &str = "\
 45 1 44 start retries are 258, but must be 0 to 255
 56 1 56 this word is 1, but must be 0
 63 1 60 this word is 16777216, but must be 0
-64 7 64 call 0: kind is 7, but must be 0 to 6
+64 8 64 call 0: kind is 8, but must be 0 to 7
+64 255 64 call 0: kind is 255, but must be 0 to 7
 64 1 64 call 0: operation 0 is a write, but a polling read needs a read there
 64 2 70 call 0: operation count is 1, but a polling write_read has 2 operations
 65 8 65 call 0: address width is 8, but must be 7 or 10
@@ -86,9 +88,15 @@ fn cause_20_in_every_field() {
         refused(&bytes, 2, Refusal::Form, number(2), fields[3]);
     }
 
+    // Both kinds of transaction take the one operation of either call.
+    for kind in [3, 7] {
+        accepted(&changed(64, kind), 2);
+        accepted(&changed(72, kind), 2);
+    }
+
     // Fewer operations in the calls than in the table.
     let mut list = BusList::new(settings());
-    list.transaction(1, [Operation::Read(0), Operation::Read(0)]);
+    list.transaction(1, [Read(0), Read(0)]);
     let mut bytes = bytes_of(&list);
     bytes[70] = 1;
     refused(
@@ -110,7 +118,7 @@ fn cause_21_at_each_limit() {
         list.write(0x50, &[0; 4070]);
     }
     // 64 + 8 * 16 + 8 * 4070 is 16 bytes short of the limit.
-    list.transaction(0x50, [Operation::Write(vec![])]);
+    list.transaction(0x50, [Write(vec![])]);
     assert_eq!(bytes_of(&list).len(), 32_768);
     accepted(&bytes_of(&list), 0);
     list.transaction(0x50, []);
@@ -129,7 +137,7 @@ fn cause_21_at_each_limit() {
     limit(&list, 0, "the list has 257 calls, but the limit is 256");
 
     let mut list = BusList::new(settings());
-    list.transaction(0x50, vec![Operation::Read(0); 1024]);
+    list.transaction(0x50, vec![Read(0); 1024]);
     accepted(&bytes_of(&list), 0);
     list.read(0x50, 1);
     limit(
@@ -238,6 +246,15 @@ fn a_fault_says_what_to_do() {
         "byte 32: mode is 3, but must be 0 to 2. \
          Correct the list here, or in the field that this has to agree with."
     );
+    let back =
+        bytes_of(BusList::new(settings()).blocking_transaction(1, [Read(1), Write(vec![2])]));
+    assert_eq!(
+        explain(&back, 1).unwrap_err().to_string(),
+        "byte 80: call 0: operation 1 is a write after the read of operation 0, \
+         but a blocking transaction writes first and then reads. \
+         A read followed by a write cannot be done without losing the bus between them. \
+         Put the write first, or make two calls."
+    );
 }
 
 #[test]
@@ -246,13 +263,14 @@ fn cause_25_for_each_empty_blocking_call() {
     list.blocking_write_read(1, &[], 0)
         .write(1, &[])
         .read(1, 0)
+        .blocking_transaction(1, [Write(vec![]), Read(0)])
         .blocking_write(1, &[]);
-    let write = "call 3: length is 0, but a blocking write needs at least one byte";
+    let write = "call 4: length is 0, but a blocking write needs at least one byte";
     refused(
         &bytes_of(&list),
         0,
         Refusal::EmptyBlocking,
-        64 + 4 * 8 + 4 * 8 + 2,
+        64 + 5 * 8 + 6 * 8 + 2,
         write,
     );
 
@@ -269,7 +287,9 @@ fn cause_25_for_each_empty_blocking_call() {
 #[test]
 fn cause_26_for_each_length_too_short() {
     let mut list = BusList::new(settings());
-    list.read(1, 3).write(1, &[9]).blocking_read(1, 2);
+    list.read(1, 3)
+        .write(1, &[9])
+        .blocking_transaction(1, [Read(0), Read(2)]);
     let bytes = bytes_of(&list);
     for room in 0..3 {
         let what = format!(
@@ -279,11 +299,73 @@ fn cause_26_for_each_length_too_short() {
     }
     for room in 3..5 {
         let what = format!(
-            "operation 2: the reads up to this one have 5 bytes, but the received buffer has {room}"
+            "operation 3: the reads up to this one have 5 bytes, but the received buffer has {room}"
         );
-        refused(&bytes, room, Refusal::ReceivedBuffer, 106, &what);
+        refused(&bytes, room, Refusal::ReceivedBuffer, 114, &what);
     }
     accepted(&bytes, 5);
+}
+
+#[test]
+fn cause_27_at_each_call() {
+    // Before it a call that may do this, an empty write, and a blocking transaction that is right.
+    let mut list = BusList::new(settings());
+    list.transaction(1, [Read(1), Write(vec![1])])
+        .blocking_transaction(2, [Read(1), Write(vec![]), Read(1)])
+        .blocking_transaction(3, [Write(vec![2]), Read(1), Read(0), Write(vec![3])]);
+    let operations = 64 + 3 * 8;
+    refused(
+        &bytes_of(&list),
+        4,
+        Refusal::WriteAfterRead,
+        operations + 8 * 8,
+        "call 2: operation 8 is a write after the read of operation 6, \
+         but a blocking transaction writes first and then reads",
+    );
+    // With another such call before it, that one is named.
+    let mut first = BusList::new(settings());
+    first.blocking_transaction(
+        3,
+        [Read(1), Read(2), Write(vec![4]), Read(1), Write(vec![5])],
+    );
+    for call in list.calls() {
+        first.add(call.clone());
+    }
+    refused(
+        &bytes_of(&first),
+        8,
+        Refusal::WriteAfterRead,
+        64 + 4 * 8 + 2 * 8,
+        "call 0: operation 2 is a write after the read of operation 1, \
+         but a blocking transaction writes first and then reads",
+    );
+}
+
+#[test]
+fn cause_27_only_for_what_is_left() {
+    let of =
+        |operations: Vec<_>| bytes_of(BusList::new(settings()).blocking_transaction(1, operations));
+    let one = || Write(vec![1]);
+    let none = || Write(vec![]);
+    accepted(&of(vec![]), 0);
+    accepted(&of(vec![Read(0), none()]), 0);
+    accepted(&of(vec![Read(0), one()]), 0);
+    accepted(&of(vec![Read(1), none()]), 1);
+    accepted(&of(vec![Read(1), none(), Read(2)]), 3);
+    accepted(
+        &of(vec![one(), Read(0), one(), Read(1), none(), Read(1)]),
+        2,
+    );
+    let back = |operations, at| {
+        let bytes = of(operations);
+        assert_eq!(refusal(&bytes, 9), Some(Refusal::WriteAfterRead));
+        let fault = explain(&bytes, 9).expect_err("it is refused");
+        assert_eq!((fault.refusal, fault.at), (Refusal::WriteAfterRead, at));
+    };
+    back(vec![Read(1), one()], 80);
+    back(vec![Read(1), none(), one()], 88);
+    back(vec![Read(1), Read(0), one()], 88);
+    back(vec![one(), Read(1), one(), Read(1)], 88);
 }
 
 /// A list with every cause from 21 on; each is answered when those before it are put right.
@@ -294,23 +376,40 @@ fn causes_are_answered_in_rising_order() {
         data_timeout: Micros(u32::MAX),
         ..settings()
     };
-    let build = |settings, length, address, blocking: &[u8]| {
+    let build = |settings, length, address, blocking: &[u8], last| {
         let mut list = BusList::new(settings);
         list.read(1, length)
             .write(address, &[1])
-            .blocking_write(1, blocking);
+            .blocking_write(1, blocking)
+            .blocking_transaction(1, [Read(1), last]);
         refusal(&bytes_of(&list), 10)
     };
+    let back = || Write(vec![2]);
     let right = settings();
     let slow = Settings {
         frequency: Hertz(1),
         ..wrong
     };
-    assert_eq!(build(wrong, 5000, 200, &[]), Some(Refusal::Limit));
-    assert_eq!(build(wrong, 50, 200, &[]), Some(Refusal::Frequency));
-    assert_eq!(build(slow, 50, 200, &[]), Some(Refusal::Timeout));
-    assert_eq!(build(right, 50, 200, &[]), Some(Refusal::Address));
-    assert_eq!(build(right, 50, 100, &[]), Some(Refusal::EmptyBlocking));
-    assert_eq!(build(right, 50, 100, &[1]), Some(Refusal::ReceivedBuffer));
-    assert_eq!(build(right, 5, 100, &[1]), None);
+    let cases = [
+        (build(wrong, 5000, 200, &[], back()), Some(Refusal::Limit)),
+        (build(wrong, 50, 200, &[], back()), Some(Refusal::Frequency)),
+        (build(slow, 50, 200, &[], back()), Some(Refusal::Timeout)),
+        (build(right, 50, 200, &[], back()), Some(Refusal::Address)),
+        (
+            build(right, 50, 100, &[], back()),
+            Some(Refusal::EmptyBlocking),
+        ),
+        (
+            build(right, 50, 100, &[1], back()),
+            Some(Refusal::ReceivedBuffer),
+        ),
+        (
+            build(right, 5, 100, &[1], back()),
+            Some(Refusal::WriteAfterRead),
+        ),
+        (build(right, 5, 100, &[1], Read(1)), None),
+    ];
+    for (answered, expected) in cases {
+        assert_eq!(answered, expected);
+    }
 }

@@ -59,7 +59,8 @@ fn without_retries_no_start_is_sent() {
         .blocking_read(0x50, 3)
         .blocking_write_read(0x50, &[1], 2)
         .blocking_write_read(0x50, &[], 1)
-        .blocking_write_read(0x50, &[1], 0);
+        .blocking_write_read(0x50, &[1], 0)
+        .blocking_transaction(0x50, [Read(0), Write(vec![1]), Write(vec![2]), Read(2)]);
     for call in all.calls() {
         let mut list = BusList::new(settings());
         list.add(call.clone());
@@ -183,13 +184,15 @@ fn the_first_blocking_call_with_accesses_is_named() {
     let mut list = BusList::new(zeros());
     list.write(0x50, &[1])
         .blocking_write_read(0x50, &[], 0)
-        .blocking_write_read(0x50, &[], 1)
+        .blocking_transaction(0x50, [])
+        .blocking_transaction(0x50, [Write(vec![]), Read(0)])
+        .blocking_transaction(0x50, [Read(0), Read(1)])
         .blocking_write(0x50, &[1]);
     // With no retries the start timeout plays no part.
     assert_eq!(places(&list), [28, 44, 48, 52]);
     for warning in warnings(&list) {
         assert!(
-            warning.what.contains("call 2 (blocking write_read)"),
+            warning.what.contains("call 4 (blocking transaction)"),
             "{warning}"
         );
     }
@@ -213,7 +216,9 @@ fn zeros_do_no_harm_without_blocking_accesses() {
     assert_eq!(run_on(&polling, &[READY; 200]).answer(), 0);
 
     let mut idle = BusList::new(zeros());
-    idle.blocking_write_read(0x50, &[], 0);
+    idle.blocking_write_read(0x50, &[], 0)
+        .blocking_transaction(0x50, [])
+        .blocking_transaction(0x50, [Read(0), Write(vec![]), Read(0)]);
     assert_eq!(warnings(&idle), []);
     let bring_up = run_on(&BusList::new(zeros()), &[READY; 10]);
     assert_eq!(
@@ -251,8 +256,9 @@ fn a_polling_call_that_ends_in_an_empty_read_answers_overrun() {
 
     let mut list = BusList::new(settings());
     list.blocking_write_read(0x50, &[1], 0)
+        .blocking_transaction(0x50, [Write(vec![1]), Read(0)])
         .write_read(0x50, &[1], 0);
-    assert_eq!(places(&list), [64 + 2 * 8 + 3 * 8 + 2]);
+    assert_eq!(places(&list), [64 + 3 * 8 + 5 * 8 + 2]);
     let ran = run_on(&list, &[READY; 100]);
-    assert_eq!((ran.answer(), ran.counts().calls), (1, 1));
+    assert_eq!((ran.answer(), ran.counts().calls), (1, 2));
 }

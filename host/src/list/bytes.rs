@@ -85,7 +85,7 @@ impl BusList<Settings> {
     /// let mut bytes = BusList::new(settings).read(0x50, 2).to_bytes()?;
     /// bytes[64] = 9;
     /// let fault = BusList::from_bytes(&bytes).unwrap_err();
-    /// assert_eq!((fault.at, fault.what.as_str()), (64, "call 0: kind is 9, but must be 0 to 6"));
+    /// assert_eq!((fault.at, fault.what.as_str()), (64, "call 0: kind is 9, but must be 0 to 7"));
     /// # Ok::<(), Box<dyn std::error::Error>>(())
     /// ```
     pub fn from_bytes(bytes: &[u8]) -> Result<Self, Fault> {

@@ -117,6 +117,7 @@ pub fn explain(list: &[u8], received_length: usize) -> Result<Vec<Warning>, Faul
     addresses(layout)?;
     empty_blocking(layout)?;
     received(layout, received_length)?;
+    write_after_read(layout)?;
     Ok(warnings(layout))
 }
 
@@ -275,13 +276,13 @@ fn call(row: &CallRow, before: u64, all: u64) -> Result<(), (usize, String)> {
 /// Whether a call has the operations of its kind. If not: the byte of its row, and what is wrong.
 fn kind(l: Layout, row: &CallRow) -> Result<(), (usize, String)> {
     let Some(kind) = Kind::from_number(row.kind) else {
-        return Err((0, format!("kind is {}, but must be 0 to 6", row.kind)));
+        return Err((0, format!("kind is {}, but must be 0 to 7", row.kind)));
     };
     let directions: &[u8] = match kind {
         Kind::Write | Kind::BlockingWrite => &[0],
         Kind::Read | Kind::BlockingRead => &[1],
         Kind::WriteRead | Kind::BlockingWriteRead => &[0, 1],
-        Kind::Transaction => return Ok(()),
+        Kind::Transaction | Kind::BlockingTransaction => return Ok(()),
     };
     if usize::from(row.count) != directions.len() {
         let needed = counted(directions.len(), "operation");
@@ -417,6 +418,30 @@ fn received(l: Layout, room: usize) -> Result<(), Fault> {
                 )
             },
         )?;
+    }
+    Ok(())
+}
+
+/// Cause 27. Empty operations do not count. The place is the first write that follows a read.
+fn write_after_read(l: Layout) -> Result<(), Fault> {
+    for (number, row) in l.calls().enumerate() {
+        let Some(kind @ Kind::BlockingTransaction) = Kind::from_number(row.kind) else {
+            continue;
+        };
+        let first = usize::from(row.first);
+        let left: Vec<_> = (first..)
+            .zip(l.operations_of(&row))
+            .filter(|(_, operation)| operation.length > 0)
+            .collect();
+        for ((read, before), (write, after)) in left.iter().zip(left.iter().skip(1)) {
+            let turns_back = before.direction == 1 && after.direction == 0;
+            must(!turns_back, Refusal::WriteAfterRead, after.at, || {
+                format!(
+                    "call {number}: operation {write} is a write after the read of operation {read}, \
+                     but a {kind} writes first and then reads"
+                )
+            })?;
+        }
     }
     Ok(())
 }

@@ -43,7 +43,7 @@ fn name(number: usize, kind: Kind) -> String {
     format!("call {number} ({kind})")
 }
 
-/// The name of the first blocking call that makes accesses. One with empty halves only makes none.
+/// The name of the first blocking call that makes accesses. One with empty operations only makes none.
 fn first_blocking(l: Layout) -> Option<String> {
     l.calls().enumerate().find_map(|(number, row)| {
         let kind = Kind::from_number(row.kind).filter(|kind| kind.is_blocking())?;

@@ -166,7 +166,15 @@ pub fn every_kind() -> BusList {
         .blocking_write_read(0x59, &[], 0)
         .blocking_write_read(0x5a, &[9], 3)
         .blocking_write_read(0x5b, &[], 1)
-        .blocking_write_read(0x5c, &[10], 0);
+        .blocking_write_read(0x5c, &[10], 0)
+        .blocking_transaction(0x5d, [])
+        .blocking_transaction(0x5e, [Write(vec![]), Read(0)])
+        .blocking_transaction(0x5f, [Read(0), Write(vec![11]), Write(vec![12, 13])])
+        .blocking_transaction(0x60, [Read(2), Write(vec![]), Read(1)])
+        .blocking_transaction(
+            0x61,
+            [Write(vec![14]), Read(0), Write(vec![15]), Read(1), Read(1)],
+        );
     list
 }
 
