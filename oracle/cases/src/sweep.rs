@@ -40,7 +40,14 @@ fn plans() -> impl Iterator<Item = Plan> {
         (6, vec![write(1), read(0)]),
         (6, vec![write(0), read(1)]),
         (6, vec![write(2), read(2)]),
+        // Refused: 26 for each received buffer that is too short, then 27.
+        (7, vec![read(1), write(1)]),
+        (
+            7,
+            vec![write(1), read(1), write(0), read(1), read(0), write(2)],
+        ),
     ];
+    let combined = combined().map(|operations| (7, operations));
     let settings = Settings {
         sysclk: 1_000_000,
         start_timeout: LIMIT,
@@ -49,21 +56,53 @@ fn plans() -> impl Iterator<Item = Plan> {
         data_timeout: LIMIT,
         ..Settings::example()
     };
-    operations.into_iter().map(move |(kind, operations)| {
-        let call = |kind, operations| PlannedCall {
-            kind,
-            width: 7,
-            address: 0x2A,
-            operations,
-        };
-        // A second call shows that nothing of the first is carried over.
-        Plan {
-            settings,
-            calls: vec![
-                call(kind, operations),
-                call(5, vec![PlannedOperation::Read(1)]),
-            ],
-        }
+    operations
+        .into_iter()
+        .chain(combined)
+        .map(move |(kind, operations)| {
+            let call = |kind, operations| PlannedCall {
+                kind,
+                width: 7,
+                address: 0x2A,
+                operations,
+            };
+            // A second call shows that nothing of the first is carried over.
+            Plan {
+                settings,
+                calls: vec![
+                    call(kind, operations),
+                    call(5, vec![PlannedOperation::Read(1)]),
+                ],
+            }
+        })
+}
+
+/// Combined transactions: nothing, joined writes, joined reads for each arm of the Rust's `read`, and both; each as it
+/// is, and with an empty operation of each direction in each place.
+fn combined() -> impl Iterator<Item = Vec<PlannedOperation>> {
+    let read = PlannedOperation::Read;
+    let whole = [
+        vec![],
+        vec![write(1), write(2)],
+        vec![read(1)],
+        vec![read(1), read(1)],
+        vec![read(2), read(1)],
+        vec![read(3), read(2)],
+        vec![write(2), read(1), read(1)],
+        vec![write(2), write(1), read(1)],
+    ];
+    whole.into_iter().flat_map(move |whole| {
+        let places = 0..=whole.len();
+        let empties = places.flat_map(move |at| [(at, write(0)), (at, read(0))]);
+        let parted = empties.map({
+            let whole = whole.clone();
+            move |(at, empty)| {
+                let mut operations = whole.clone();
+                operations.insert(at, empty);
+                operations
+            }
+        });
+        std::iter::once(whole).chain(parted)
     })
 }
 

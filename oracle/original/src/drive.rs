@@ -1,6 +1,8 @@
 //! Runs a whole bus list on the original: the bring-up once, then the calls in order.
 
-use buslist::{List, Mode as ListedMode, Operation as Listed, Settings};
+use buslist::{
+    List, Mode as ListedMode, Operation as Listed, PlannedCall, PlannedOperation, Settings,
+};
 use device::{Cut, Feed, Usage};
 use embedded_hal::i2c::{I2c as Bus, Operation};
 
@@ -99,35 +101,76 @@ fn blocking(settings: &Settings, rcc: &mut Rcc) -> BlockingI2c<I2C1> {
     )
 }
 
+/// The two drivers of a run, over one device.
+struct Drivers {
+    settings: Settings,
+    rcc: Rcc,
+    polling: I2c<I2C1>,
+    /// Made for the first call that needs it.
+    blocking: Option<BlockingI2c<I2C1>>,
+}
+
+impl Drivers {
+    /// With the run's bring-up.
+    fn new(settings: Settings) -> Drivers {
+        let mut rcc = Rcc::at(settings.pclk1, settings.sysclk);
+        Drivers {
+            polling: bring_up(settings.mode, settings.frequency, &mut rcc),
+            settings,
+            rcc,
+            blocking: None,
+        }
+    }
+
+    fn call(
+        &mut self,
+        kind: u8,
+        address: u8,
+        operations: &mut [Operation<'_>],
+    ) -> Result<(), Error> {
+        if kind < 4 {
+            return polling_call(&mut self.polling, kind, address, operations);
+        }
+        let blocking = self
+            .blocking
+            .get_or_insert_with(|| blocking(&self.settings, &mut self.rcc));
+        blocking_call(blocking, kind, address, operations)
+    }
+}
+
 fn perform(list: &List, rx: &mut [u8], ended_well: &mut usize) -> Result<(), Error> {
-    let settings = list.settings();
-    let mut rcc = Rcc::at(settings.pclk1, settings.sysclk);
-    let mut polling = bring_up(settings.mode, settings.frequency, &mut rcc);
-    let mut blocked = None;
+    let mut drivers = Drivers::new(list.settings());
     let mut operations = Vec::new();
     let mut rx = rx;
     for call in list.calls() {
-        operations.clear();
-        for listed in list.operations(&call) {
-            operations.push(match listed {
-                Listed::Write(bytes) => Operation::Write(bytes),
-                Listed::Read(length) => {
-                    let (buffer, rest) = std::mem::take(&mut rx).split_at_mut(length);
-                    rx = rest;
-                    Operation::Read(buffer)
-                }
-            });
-        }
         let address = call.address as u8;
-        if call.kind < 4 {
-            polling_call(&mut polling, call.kind, address, &mut operations)?;
+        if call.kind == 7 {
+            // The Rust has `todo!()` for blocking transactions: it is given the plain call on joined operations.
+            if let Some(plain) = PlannedCall::of(list, &call).plain() {
+                let listed = plain.operations.iter().map(PlannedOperation::listed);
+                let mut operations: Vec<_> = listed.map(|listed| lend(listed, &mut rx)).collect();
+                drivers.call(plain.kind, address, &mut operations)?;
+            }
         } else {
-            let blocking = blocked.get_or_insert_with(|| blocking(&settings, &mut rcc));
-            blocking_call(blocking, call.kind, address, &mut operations)?;
+            operations.clear();
+            operations.extend(list.operations(&call).map(|listed| lend(listed, &mut rx)));
+            drivers.call(call.kind, address, &mut operations)?;
         }
         *ended_well += 1;
     }
     Ok(())
+}
+
+/// An operation for the Rust; a read takes its bytes off the received buffer.
+fn lend<'o, 'r: 'o>(listed: Listed<'o>, rx: &mut &'r mut [u8]) -> Operation<'o> {
+    match listed {
+        Listed::Write(bytes) => Operation::Write(bytes),
+        Listed::Read(length) => {
+            let (buffer, rest) = std::mem::take(rx).split_at_mut(length);
+            *rx = rest;
+            Operation::Read(buffer)
+        }
+    }
 }
 
 fn polling_call(
@@ -166,7 +209,7 @@ fn blocking_call(
 #[cfg(test)]
 mod tests {
     use super::*;
-    use buslist::{Plan, PlannedCall, PlannedOperation};
+    use buslist::Plan;
 
     fn list(settings: Settings, kind: u8, operation: PlannedOperation) -> Vec<u8> {
         let call = PlannedCall {
