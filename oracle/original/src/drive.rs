@@ -212,11 +212,15 @@ mod tests {
     use buslist::Plan;
 
     fn list(settings: Settings, kind: u8, operation: PlannedOperation) -> Vec<u8> {
+        list_of(settings, kind, vec![operation])
+    }
+
+    fn list_of(settings: Settings, kind: u8, operations: Vec<PlannedOperation>) -> Vec<u8> {
         let call = PlannedCall {
             kind,
             width: 7,
             address: 0x50,
-            operations: vec![operation],
+            operations,
         };
         Plan {
             settings,
@@ -291,5 +295,64 @@ mod tests {
         assert_eq!(answer(&polling, &[0, 0, 0, 0xC00]), (1, 4));
         let blocking = list(Settings::example(), 4, PlannedOperation::Write(vec![1]));
         assert_eq!(answer(&blocking, &[0, 0, 0, 0xC00, 0]), (2, 5));
+    }
+
+    /// A combined transaction, access for access as document 01 has write_read: two bytes written, two received.
+    #[test]
+    fn a_combined_transaction() {
+        // Start: SR1 0, START, timed SB. Then the address, timed ADDR.
+        let start = |address| {
+            [
+                15, 0, 3, 1, 11, 0x101, 5, 0, 1, 0xC7, 1, 0xC7, 16, address, 5, 0, 1, 0xC7,
+            ]
+        };
+        // The first byte; timed TXE and the second; timed BTF, and no closing.
+        let written = [
+            1, 0xC7, 2, 3, 16, 0x1A, 5, 0, 1, 0xC7, 16, 0x2B, 5, 0, 1, 0xC7,
+        ];
+        // The arm of two bytes: POS and ACK, ACK off, timed BTF, STOP, both bytes.
+        let received = [
+            3, 1, 11, 0xC01, 1, 0xC7, 2, 3, 3, 1, 11, 1, 5, 0, 1, 0xC7, 3, 1, 11, 0x201, 4, 0x55,
+            4, 0x66,
+        ];
+        // Timed wait for STOP; POS and ACK off, ACK on.
+        let closed = [5, 0, 3, 1, 3, 1, 11, 1, 3, 1, 11, 0x401];
+        let expected = [&start(0xA0)[..], &written, &start(0xA1), &received, &closed].concat();
+        let mut settings = Settings::example();
+        settings.start_retries = 1;
+        let (read, write) = (PlannedOperation::Read, PlannedOperation::Write);
+        let [one, two, empty] = [&[0x1A][..], &[0x2B], &[]].map(|bytes| write(bytes.to_vec()));
+        let operations = vec![one, read(0), two, read(1), empty, read(1)];
+        let bytes = list_of(settings, 7, operations);
+        let taken = expected.chunks(2).filter(|access| access[0] <= 5);
+        let taken: Vec<u32> = taken.map(|access| access[1]).collect();
+        // The bring-up reads CR1.
+        let readings = [&[1], &taken[..]].concat();
+        let (mut rx, mut record) = ([0; 2], [0; 200]);
+        let counts = run(&List::accepted(&bytes), &readings, &mut rx, &mut record);
+        assert_eq!(
+            (counts.answer, counts.calls, counts.used),
+            (0, 1, readings.len())
+        );
+        assert_eq!(record[10..2 * counts.made], expected);
+        assert_eq!((counts.received, rx), (2, [0x55, 0x66]));
+    }
+
+    /// With nothing left after the empty ones: the bring-up alone, and the call has ended well.
+    #[test]
+    fn an_idle_combined_transaction() {
+        let empty = vec![PlannedOperation::Write(vec![]), PlannedOperation::Read(0)];
+        for operations in [vec![], empty] {
+            let bytes = list_of(Settings::example(), 7, operations);
+            let counts = run(&List::accepted(&bytes), &[0], &mut [], &mut [0; 10]);
+            let expected = Counts {
+                answer: 0,
+                calls: 1,
+                used: 1,
+                made: 5,
+                received: 0,
+            };
+            assert_eq!(counts, expected);
+        }
     }
 }
