@@ -77,7 +77,9 @@ const BEFORE: std::ops::RangeInclusive<u32> = 21..=26;
 
 #[derive(Default)]
 pub struct Combined {
-    /// Accepted lists with a combined transaction.
+    /// Lists of all cases.
+    made: u64,
+    /// Those that are accepted and have a combined transaction.
     lists: u64,
     /// Calls that ended well, by shape.
     shapes: [u64; SHAPES.len()],
@@ -90,6 +92,7 @@ pub struct Combined {
 
 impl Combined {
     pub fn count(&mut self, case: &Case, ran: &Ran) {
+        self.made += 1;
         let answer = ran.answer();
         if answer >= 20 {
             if BEFORE.contains(&answer) && causes(&case.list, case.rx).contains(&27) {
@@ -115,27 +118,31 @@ impl Combined {
         }
     }
 
-    /// What there is too little of, in so many cases.
-    pub fn shortfalls(&self, cases: u64) -> Vec<String> {
-        let often = SHAPES
-            .iter()
-            .zip(self.shapes)
-            .map(|((name, _), count)| (*name, count));
-        let often = often.chain([("a start tried again", self.retried)]);
-        let often = often.map(|(name, count)| (name.to_string(), count, cases / 1_000));
-        let long = LONG
-            .iter()
-            .zip(self.long)
-            .map(|((name, _), count)| (name.to_string(), count, 1));
-        let beside = BEFORE
-            .zip(self.beside)
-            .map(|(cause, count)| (format!("27 beside {cause}"), count, 1));
-        let lists = ("accepted lists".to_string(), self.lists, cases.div_ceil(4));
-        std::iter::once(lists)
-            .chain(often)
-            .chain(long)
-            .chain(beside)
-            .filter(|(_, count, least)| count < least)
+    /// Each shape, how many calls of it ended well, and how many must.
+    fn shapes(&self) -> impl Iterator<Item = (&'static str, u64, u64)> + '_ {
+        let often = self.made / 1_000;
+        let short = SHAPES.iter().zip(self.shapes);
+        let short = short.map(move |((name, _), count)| (*name, count, often));
+        let long = LONG.iter().zip(self.long);
+        let long = long.map(|((name, _), count)| (*name, count, 1));
+        let retried = ("a start tried again", self.retried, often);
+        short.chain(long).chain([retried])
+    }
+
+    /// What there is too little of.
+    pub fn shortfalls(&self) -> Vec<String> {
+        let lists = (
+            "accepted lists".to_string(),
+            self.lists,
+            self.made.div_ceil(4),
+        );
+        let shapes = self
+            .shapes()
+            .map(|(name, count, least)| (name.to_string(), count, least));
+        let beside = BEFORE.zip(self.beside);
+        let beside = beside.map(|(cause, count)| (format!("27 beside {cause}"), count, 1));
+        let all = std::iter::once(lists).chain(shapes).chain(beside);
+        all.filter(|(_, count, least)| count < least)
             .map(|(name, count, least)| format!("kind 7, {name}: {count}, below {least}"))
             .collect()
     }
@@ -150,19 +157,14 @@ fn was_reset(ran: &Ran) -> bool {
 
 impl fmt::Display for Combined {
     fn fmt(&self, f: &mut fmt::Formatter) -> fmt::Result {
+        let (lists, made) = (self.lists, self.made);
         write!(
             f,
-            "accepted lists with kind 7: {}; of its calls that ended well:",
-            self.lists
+            "of {made} lists accepted with kind 7: {lists}; of its calls that ended well:"
         )?;
-        let shapes = SHAPES
-            .iter()
-            .zip(self.shapes)
-            .chain(LONG.iter().zip(self.long));
-        for ((name, _), count) in shapes {
+        for (name, count, _) in self.shapes() {
             write!(f, "\n  {name:36} {count:7}")?;
         }
-        write!(f, "\n  {:36} {:7}", "a start tried again", self.retried)?;
         write!(f, "\n27 beside a lower cause, 21 to 26: {:?}", self.beside)
     }
 }

@@ -103,7 +103,7 @@ impl Tally {
                 self.several, self.accepted
             ));
         }
-        short.extend(self.combined.shortfalls(self.cases));
+        short.extend(self.combined.shortfalls());
         short
     }
 

@@ -111,6 +111,6 @@ fn wrong_joinings_are_noticed() {
 #[test]
 fn the_right_joining_changes_nothing() {
     for case in cases() {
-        assert!(!differs(&case, |all| combined(all)), "{case:?}");
+        assert!(!differs(&case, combined), "{case:?}");
     }
 }
