@@ -192,7 +192,26 @@ fn lengthen(rng: &mut Rng, plan: &mut Plan) {
     plan.calls.truncate(rng.pick(&[0, 2, 6]));
     let listed = plan.calls.iter().map(|call| call.operations.len());
     let room = limit::OPERATIONS - listed.sum::<usize>();
-    let (kind, operations) = match rng.below(8) {
+    let (kind, operations) = long_call(rng, room);
+    plan.calls.push(PlannedCall {
+        kind,
+        width: 7,
+        address: 0x50,
+        operations,
+    });
+    let bytes = plan.bytes().len();
+    if bytes > 28_000 && bytes < limit::LIST_BYTES - buslist::ENTRY {
+        let rest = limit::LIST_BYTES - buslist::ENTRY - bytes;
+        let last = plan.calls.len() - 1;
+        plan.calls[last]
+            .operations
+            .push(PlannedOperation::Write(rng.bytes(rest)));
+    }
+}
+
+/// The kind and the operations of a long call, of which there may be so many.
+fn long_call(rng: &mut Rng, room: usize) -> (u8, Vec<PlannedOperation>) {
+    match rng.below(8) {
         0 => (3, vec![PlannedOperation::Read(limit::OPERATION_BYTES)]),
         1 => (3, vec![PlannedOperation::Read(1); room]),
         2 => (3, longest_writes(rng)),
@@ -209,20 +228,6 @@ fn lengthen(rng: &mut Rng, plan: &mut Plan) {
             let received = 65_536 + rng.pick(&[0, 1, 2, 3, 4_096]);
             (7, scatter(rng, &[PlannedOperation::Read(received)]))
         }
-    };
-    plan.calls.push(PlannedCall {
-        kind,
-        width: 7,
-        address: 0x50,
-        operations,
-    });
-    let bytes = plan.bytes().len();
-    if bytes > 28_000 && bytes < limit::LIST_BYTES - buslist::ENTRY {
-        let rest = limit::LIST_BYTES - buslist::ENTRY - bytes;
-        let last = plan.calls.len() - 1;
-        plan.calls[last]
-            .operations
-            .push(PlannedOperation::Write(rng.bytes(rest)));
     }
 }
 
