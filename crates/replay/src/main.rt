@@ -6,7 +6,7 @@
 // How the vectors are made, and their form, is in oracle/README.md, "Stored vectors". The file `stdout` is made from
 // them alone, with no run, by the line below:
 //
-//   od -An -v -w4 -tu4 --endian=little data/vectors.bin | awk '{w[NR-1]=$1}END{for(i=0;i<NR;i+=9+int((w[i]+3)/4)+w[i+1]+2*w[i+7]+int((w[i+8]+3)/4)){n[w[i+4]]++;c++}for(a=0;a<27;a++)if(n[a])print "answer " a ": " n[a] " cases";print c " cases, 0 differ"}' > stdout
+//   od -An -v -w4 -tu4 --endian=little data/vectors.bin | awk '{w[NR-1]=$1}END{for(i=0;i<NR;i+=9+int((w[i]+3)/4)+w[i+1]+2*w[i+7]+int((w[i+8]+3)/4)){n[w[i+4]]++;c++}for(a=0;a<28;a++)if(n[a])print "answer " a ": " n[a] " cases";print c " cases, 0 differ"}' > stdout
 use buffers::first_bytes;
 use buffers::first_words;
 use buffers::run_on;
@@ -415,7 +415,7 @@ fn main() {
         return;
     }
     let mut body = io::buffer();
-    let mut answers = [0u32; 27];
+    let mut answers = [0u32; 28];
     let s = replay_all(fd, &mut body, &mut answers);
     libc::close(fd);
     print_answers(&answers);

@@ -3,14 +3,15 @@
 //! `benchmark [FILE.svg]`: prints the figures, and draws them where a file is named.
 //!
 //! Samples of the two are taken in turn, and medians are printed. Buffers are not cleared in between. The Rust
-//! side is handed the list as accepted: the time to refuse or accept is in the engine's figures alone.
+//! side is handed the list as accepted, with plain calls for combined transactions: the time to refuse or accept, and to
+//! join operations, is in the engine's figures alone.
 
 mod lists;
 mod plot;
 mod timing;
 
-use buslist::List;
-use lists::{hostile, rows, Row};
+use buslist::{refusal, List};
+use lists::{hostile, rows, Hostile, Row};
 use plot::{draw, Bar};
 use timing::{medians, Sample};
 
@@ -22,8 +23,8 @@ fn main() {
     }
     println!();
     println!("refused list                 bytes  answer   engine ns  ns/byte");
-    for (name, list) in hostile() {
-        refuse(name, &list);
+    for hostile in hostile() {
+        refuse(&hostile);
     }
 }
 
@@ -34,7 +35,7 @@ fn race(row: &Row) -> Bar {
     assert_eq!(made[0], 0, "{}: every call ends well", row.name);
     let (mut same_rx, mut same_record) = (vec![0; row.rx], vec![0; row.record]);
     let counts = original::run(
-        &List::accepted(&row.list),
+        &List::accepted(&row.plain),
         &row.readings,
         &mut same_rx,
         &mut same_record,
@@ -50,7 +51,7 @@ fn race(row: &Row) -> Bar {
     let [engine, rust] = medians([
         Sample::new(|| engine::run(&row.list, &row.readings, &mut rx, &mut record)[3]),
         Sample::new(|| {
-            let list = List::accepted(&row.list);
+            let list = List::accepted(&row.plain);
             original::run(&list, &row.readings, &mut same_rx, &mut same_record).made as u64
         }),
     ]);
@@ -70,10 +71,13 @@ fn race(row: &Row) -> Bar {
     bar
 }
 
-fn refuse(name: &str, list: &[u8]) {
-    let answer = engine::run(list, &[], &mut [], &mut [])[0];
-    assert!(answer >= 20, "{name}: refused");
-    let [nanoseconds] = medians([Sample::new(|| engine::run(list, &[], &mut [], &mut [])[0])]);
+fn refuse(hostile: &Hostile) {
+    let Hostile { name, list, .. } = hostile;
+    let mut rx = vec![0; hostile.rx];
+    let answer = engine::run(list, &[], &mut rx, &mut [])[0];
+    let expected = u64::from(refusal(list, hostile.rx));
+    assert_eq!(answer, expected, "{name}: refused");
+    let [nanoseconds] = medians([Sample::new(|| engine::run(list, &[], &mut rx, &mut [])[0])]);
     println!(
         "{name:26} {:7}  {answer:6}  {nanoseconds:10.1}  {:7.3}",
         list.len(),

@@ -1,11 +1,13 @@
-//! The bus list, read and written: from document 01 alone, with nothing of the engine.
+//! The bus list, read and written: from documents 01 and 02 alone, with nothing of the engine.
 
+mod join;
 mod plan;
 mod refusal;
 mod view;
 
+pub use join::{combined, joined, plain_kind};
 pub use plan::{Plan, PlannedCall, PlannedOperation};
-pub use refusal::refusal;
+pub use refusal::{causes, refusal};
 pub use view::{Call, List, Mode, Operation, Settings};
 
 /// The bytes of a header: sixteen 32-bit words.

@@ -1,6 +1,6 @@
 //! A list as it is planned, and its bytes.
 
-use crate::{Call, List, Operation, Settings, ENTRY, HEADER};
+use crate::{combined, plain_kind, Call, List, Operation, Settings, ENTRY, HEADER};
 
 #[derive(Debug, Clone, PartialEq, Eq)]
 pub enum PlannedOperation {
@@ -33,20 +33,62 @@ impl PlannedOperation {
     pub fn is_empty(&self) -> bool {
         self.len() == 0
     }
+
+    /// The first bytes of an operation, taken off it.
+    pub fn take(&mut self, bytes: usize) -> PlannedOperation {
+        match self {
+            PlannedOperation::Write(all) => PlannedOperation::Write(all.drain(..bytes).collect()),
+            PlannedOperation::Read(length) => {
+                *length -= bytes;
+                PlannedOperation::Read(bytes)
+            }
+        }
+    }
+
+    /// As it is read from a list.
+    pub fn listed(&self) -> Operation<'_> {
+        match self {
+            PlannedOperation::Write(bytes) => Operation::Write(bytes),
+            PlannedOperation::Read(length) => Operation::Read(*length),
+        }
+    }
+}
+
+impl PlannedCall {
+    /// A call of an accepted list.
+    pub fn of(list: &List, call: &Call) -> PlannedCall {
+        PlannedCall {
+            kind: call.kind,
+            width: 7,
+            address: call.address,
+            operations: list.operations(call).map(planned).collect(),
+        }
+    }
+
+    /// The blocking write, read or write_read that an accepted combined transaction is done as; none where it is
+    /// idle.
+    pub fn plain(&self) -> Option<PlannedCall> {
+        let operations = combined(&self.operations);
+        if operations.is_empty() {
+            return None;
+        }
+        Some(PlannedCall {
+            kind: plain_kind(&operations).expect("no write after a read"),
+            operations,
+            ..self.clone()
+        })
+    }
 }
 
 impl Plan {
     /// The plan of an accepted list.
     pub fn of(list: &List) -> Plan {
-        let call = |call: Call| PlannedCall {
-            kind: call.kind,
-            width: 7,
-            address: call.address,
-            operations: list.operations(&call).map(planned).collect(),
-        };
         Plan {
             settings: list.settings(),
-            calls: list.calls().map(call).collect(),
+            calls: list
+                .calls()
+                .map(|call| PlannedCall::of(list, &call))
+                .collect(),
         }
     }
 

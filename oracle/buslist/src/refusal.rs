@@ -1,31 +1,29 @@
-//! Why a list is refused: causes 20 to 26, in rising order.
+//! Why a list is refused: causes 20 to 27, in rising order.
 
 use crate::{limit, ENTRY, HEADER};
 
 /// The first cause from 20 on that applies to a list with a received buffer of `rx` bytes, or 0.
 pub fn refusal(list: &[u8], rx: usize) -> u32 {
+    causes(list, rx).first().copied().unwrap_or(0)
+}
+
+/// Every cause from 20 on that applies, in rising order. A list not of the form has no other: nothing else of it
+/// can be read.
+pub fn causes(list: &[u8], rx: usize) -> Vec<u32> {
     let Some(form) = Form::of(list) else {
-        return 20;
+        return vec![20];
     };
-    if form.over_a_limit(list) {
-        21
-    } else if !(1..=400_000).contains(&form.header[9]) {
-        22
-    } else if form.a_timeout_overflows() {
-        23
-    } else if form
-        .calls
-        .iter()
-        .any(|call| call.width == 10 || call.address > 127)
-    {
-        24
-    } else if form.an_empty_blocking_call() {
-        25
-    } else if (rx as u64) < form.read_together() {
-        26
-    } else {
-        0
-    }
+    let tests = [
+        (21, form.over_a_limit(list)),
+        (22, !(1..=400_000).contains(&form.header[9])),
+        (23, form.a_timeout_overflows()),
+        (24, form.an_address_out()),
+        (25, form.an_empty_blocking_call()),
+        (26, (rx as u64) < form.read_together()),
+        (27, form.a_write_after_a_read()),
+    ];
+    let apply = tests.iter().filter(|(_, applies)| *applies);
+    apply.map(|(cause, _)| *cause).collect()
 }
 
 struct CallEntry {
@@ -86,6 +84,10 @@ impl Form {
         (form.calls_right() && form.operations_right()).then_some(form)
     }
 
+    fn operations_of(&self, call: &CallEntry) -> &[OperationEntry] {
+        &self.operations[call.first as usize..(call.first + call.count) as usize]
+    }
+
     fn calls_right(&self) -> bool {
         let mut sum = 0;
         for call in &self.calls {
@@ -93,15 +95,13 @@ impl Form {
             if call.first != sum || own.end > self.operations.len() as u64 {
                 return false;
             }
-            let directions: Vec<u8> = self.operations[own.start as usize..own.end as usize]
-                .iter()
-                .map(|operation| operation.direction)
-                .collect();
+            let own_operations = self.operations_of(call).iter();
+            let directions: Vec<u8> = own_operations.map(|o| o.direction).collect();
             let kind_right = match call.kind {
                 0 | 4 => directions == [WRITE],
                 1 | 5 => directions == [READ],
                 2 | 6 => directions == [WRITE, READ],
-                3 => true,
+                3 | 7 => true,
                 _ => false,
             };
             if !kind_right || !(call.width == 7 || call.width == 10) {
@@ -147,6 +147,11 @@ impl Form {
             .any(|&at| self.header[at] * sysclk_mhz > u64::from(u32::MAX))
     }
 
+    fn an_address_out(&self) -> bool {
+        let out = |call: &CallEntry| call.width == 10 || call.address > 127;
+        self.calls.iter().any(out)
+    }
+
     fn an_empty_blocking_call(&self) -> bool {
         self.calls
             .iter()
@@ -160,6 +165,15 @@ impl Form {
             .filter(|o| o.direction == READ)
             .map(|o| o.length)
             .sum()
+    }
+
+    /// Joining does not change which directions follow each other, so it is left out here.
+    fn a_write_after_a_read(&self) -> bool {
+        self.calls.iter().filter(|call| call.kind == 7).any(|call| {
+            let full = self.operations_of(call).iter().filter(|o| o.length > 0);
+            let directions: Vec<u8> = full.map(|o| o.direction).collect();
+            directions.windows(2).any(|two| two == [READ, WRITE])
+        })
     }
 }
 
@@ -257,5 +271,79 @@ mod tests {
         plan.calls[0].operations = vec![PlannedOperation::Read(9)];
         assert_eq!(refusal(&plan.bytes(), 8), 26);
         assert_eq!(refusal(&plan.bytes(), 9), 0);
+    }
+
+    /// The causes of a list with one combined transaction.
+    fn combined(operations: Vec<PlannedOperation>, rx: usize) -> Vec<u32> {
+        let mut plan = example();
+        plan.calls[0].kind = 7;
+        plan.calls[0].operations = operations;
+        causes(&plan.bytes(), rx)
+    }
+
+    #[test]
+    fn kinds() {
+        for kind in 0..=255 {
+            let mut list = example().bytes();
+            list[HEADER] = kind;
+            let one_write = matches!(kind, 0 | 3 | 4 | 7);
+            let expected = if one_write { 0 } else { 20 };
+            assert_eq!(refusal(&list, 0), expected, "kind {kind}");
+        }
+    }
+
+    /// Cause 27: a read is followed by a write after joining.
+    #[test]
+    fn combined_transactions() {
+        let read = PlannedOperation::Read;
+        let write = |length| PlannedOperation::Write(vec![7; length]);
+        let none: [u32; 0] = [];
+        assert_eq!(combined(vec![], 0), none);
+        assert_eq!(combined(vec![write(0), read(0), write(0)], 0), none);
+        assert_eq!(combined(vec![write(1), write(1), read(1)], 1), none);
+        assert_eq!(combined(vec![read(0), write(1)], 0), none);
+        assert_eq!(combined(vec![read(1), write(0)], 1), none);
+        assert_eq!(combined(vec![read(1), write(0), read(1)], 2), none);
+        assert_eq!(combined(vec![read(1), write(1)], 1), [27]);
+        assert_eq!(combined(vec![read(1), read(0), write(1)], 1), [27]);
+        assert_eq!(combined(vec![write(1), read(1), write(1)], 1), [27]);
+        assert_eq!(combined(vec![read(1), write(1), read(1)], 2), [27]);
+    }
+
+    /// 27 comes last, 26 counts the reads of a combined transaction, and 25 and the length of 21 are about listed
+    /// operations.
+    #[test]
+    fn combined_transactions_and_other_causes() {
+        let read = PlannedOperation::Read;
+        let write = |length| PlannedOperation::Write(vec![7; length]);
+        let none: [u32; 0] = [];
+        assert_eq!(combined(vec![read(1), write(1)], 0), [26, 27]);
+        assert_eq!(combined(vec![read(1), read(2)], 2), [26]);
+        assert_eq!(combined(vec![write(0)], 0), none);
+        assert_eq!(combined(vec![write(4_096), write(4_096)], 0), none);
+        assert_eq!(combined(vec![read(4_096); 17], 69_632), none);
+        assert_eq!(combined(vec![read(4_097), write(1)], 4_097), [21, 27]);
+    }
+
+    /// A write after a read of another call, or of a polling transaction, is no cause.
+    #[test]
+    fn neighbours_of_combined_transactions() {
+        let call = |kind, operation: PlannedOperation| PlannedCall {
+            kind,
+            width: 7,
+            address: 0x50,
+            operations: vec![operation],
+        };
+        let mut plan = example();
+        plan.calls = vec![
+            call(7, PlannedOperation::Read(1)),
+            call(7, PlannedOperation::Write(vec![1])),
+        ];
+        assert_eq!(refusal(&plan.bytes(), 1), 0);
+        plan.calls = vec![call(3, PlannedOperation::Read(1))];
+        plan.calls[0]
+            .operations
+            .push(PlannedOperation::Write(vec![1]));
+        assert_eq!(refusal(&plan.bytes(), 1), 0);
     }
 }

@@ -3,6 +3,7 @@
 use buslist::{limit, Plan, PlannedCall, PlannedOperation};
 use device::{code, ENTRY_WORDS};
 
+use crate::plans::scatter;
 use crate::{flag, Rng, START};
 
 /// A reading that every wait takes as what it waits for, to go on after damage.
@@ -76,12 +77,7 @@ fn add_error_flags(rng: &mut Rng, readings: &mut [u32], places: &[usize]) {
         return;
     };
     for _ in 0..rng.range(1, 2) {
-        // AF has three endings to reach, by where it is met.
-        *word |= if rng.percent(25) {
-            flag::AF
-        } else {
-            rng.pick(&flag::ERRORS)
-        };
+        *word |= flag::any_error(rng);
     }
 }
 
@@ -121,9 +117,9 @@ pub fn exceed(rng: &mut Rng, plan: &mut Plan) {
     }
 }
 
-/// Gives a plan one of the causes 22 to 25.
+/// Gives a plan one of the causes 22 to 25 and 27.
 pub fn forbid(rng: &mut Rng, plan: &mut Plan) {
-    match rng.below(4) {
+    match rng.below(5) {
         0 => plan.settings.frequency = rng.pick(&[0, 400_001, u32::MAX, 800_000]),
         1 => {
             let mhz = rng.range(1, 4_294) as u32;
@@ -136,7 +132,8 @@ pub fn forbid(rng: &mut Rng, plan: &mut Plan) {
             };
             *timeout = over.saturating_add(rng.pick(&[0, 1, 77]));
         }
-        2 if !plan.calls.is_empty() => {
+        2 => write_after_read(rng, plan),
+        3 if !plan.calls.is_empty() => {
             let any = rng.below(plan.calls.len());
             let call = &mut plan.calls[any];
             if rng.percent(50) {
@@ -151,6 +148,25 @@ pub fn forbid(rng: &mut Rng, plan: &mut Plan) {
             ..rng.percent(50).then(empty_write).unwrap_or_else(empty_read)
         }),
     }
+}
+
+/// Gives a plan a combined transaction with a write after a read, cause 27, in any place among its calls.
+pub fn write_after_read(rng: &mut Rng, plan: &mut Plan) {
+    let read = PlannedOperation::Read(rng.range(1, 4));
+    let length = rng.range(1, 4);
+    let write = PlannedOperation::Write(rng.bytes(length));
+    let whole = match rng.below(4) {
+        0 => vec![write.clone(), read, write],
+        1 => vec![read.clone(), write, read],
+        _ => vec![read, write],
+    };
+    let call = PlannedCall {
+        kind: 7,
+        width: 7,
+        address: 0x50,
+        operations: scatter(rng, &whole),
+    };
+    plan.calls.insert(rng.below(plan.calls.len() + 1), call);
 }
 
 fn empty_write() -> PlannedCall {

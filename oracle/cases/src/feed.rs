@@ -112,7 +112,7 @@ impl<'a> Feed<'a> {
             self.style.errors
         };
         if self.rng.percent(errors) {
-            word | self.rng.pick(&flag::ERRORS)
+            word | flag::any_error(self.rng)
         } else {
             word
         }

@@ -16,8 +16,17 @@ pub fn generate(seed: u64, number: u64) -> Case {
     let mut plan = plans::plan(rng);
     let lists = rng.below(100);
     match lists {
-        0 => damage::exceed(rng, &mut plan),
-        1..=4 => damage::forbid(rng, &mut plan),
+        0 => {
+            damage::exceed(rng, &mut plan);
+            if rng.percent(20) {
+                damage::write_after_read(rng, &mut plan);
+            }
+        }
+        1..=4 => {
+            for _ in 0..rng.pick(&[1, 1, 2]) {
+                damage::forbid(rng, &mut plan);
+            }
+        }
         _ => {}
     }
     let together = plan.read_together();
@@ -42,7 +51,7 @@ fn refused(rng: &mut Rng, list: Vec<u8>, rx: usize) -> Case {
     Case {
         list,
         readings: (0..rng.below(20)).map(|_| rng.word()).collect(),
-        rx: rx.min(4_096),
+        rx,
         record: rng.below(40),
     }
 }

@@ -1,5 +1,6 @@
 //! Cases for comparison: bus lists with readings and buffer lengths, made by seed.
 
+mod combined;
 mod damage;
 mod feed;
 mod files;
@@ -15,7 +16,7 @@ pub use feed::{Feed, Style};
 pub use files::write_case;
 pub use generate::{accepted, generate, simulated};
 pub use judge::{judge, Ran};
-pub use plans::plan;
+pub use plans::{plan, scatter};
 pub use rng::Rng;
 pub use shrink::shrink;
 pub use sweep::sweep;
@@ -34,10 +35,21 @@ pub struct Case {
 
 /// SR1 bits.
 pub mod flag {
+    use crate::Rng;
+
     pub const READY: u32 = 0xC7;
     pub const AF: u32 = 1 << 10;
     /// BERR, ARLO, AF, OVR, PECERR and TIMEOUT.
     pub const ERRORS: [u32; 6] = [1 << 8, 1 << 9, AF, 1 << 11, 1 << 12, 1 << 14];
+
+    /// An error flag; AF more often, since it has three endings to reach, by where it is met.
+    pub fn any_error(rng: &mut Rng) -> u32 {
+        if rng.percent(25) {
+            AF
+        } else {
+            rng.pick(&ERRORS)
+        }
+    }
 }
 
 /// CR1 bits.

@@ -7,10 +7,12 @@ use crate::Rng;
 /// A plan of a list that is accepted.
 pub fn plan(rng: &mut Rng) -> Plan {
     let settings = settings(rng);
-    let kinds: &[u8] = match rng.below(10) {
-        0..=2 => &[0, 1, 2, 3],
-        3..=5 => &[4, 5, 6],
-        _ => &[0, 1, 2, 3, 4, 5, 6],
+    let kinds: &[u8] = match rng.below(20) {
+        0..=4 => &[0, 1, 2, 3],
+        5 => &[0, 1, 2, 3, 7],
+        6 => &[7],
+        7..=12 => &[4, 5, 6, 7],
+        _ => &[0, 1, 2, 3, 4, 5, 6, 7],
     };
     let calls = match rng.below(100) {
         0..=1 => 0,
@@ -23,7 +25,7 @@ pub fn plan(rng: &mut Rng) -> Plan {
         settings,
         calls: (0..calls).map(|_| call(rng, kinds)).collect(),
     };
-    if rng.below(400) == 0 {
+    if rng.below(150) == 0 {
         lengthen(rng, &mut plan);
     }
     plan
@@ -101,7 +103,8 @@ fn call(rng: &mut Rng, kinds: &[u8]) -> PlannedCall {
         3 => transaction(rng),
         4 => vec![write(rng, 1)],
         5 => vec![PlannedOperation::Read(length(rng, 1))],
-        _ => vec![write(rng, 0), PlannedOperation::Read(length(rng, 0))],
+        6 => vec![write(rng, 0), PlannedOperation::Read(length(rng, 0))],
+        _ => combined(rng),
     };
     PlannedCall {
         kind,
@@ -120,6 +123,45 @@ fn transaction(rng: &mut Rng) -> Vec<PlannedOperation> {
         }
     }
     operations
+}
+
+/// A combined transaction that is accepted: a write and a read after it, one of them or neither, scattered.
+fn combined(rng: &mut Rng) -> Vec<PlannedOperation> {
+    let whole = match rng.below(10) {
+        0 => vec![],
+        1..=3 => vec![write(rng, 1)],
+        4..=6 => vec![PlannedOperation::Read(length(rng, 1))],
+        _ => vec![write(rng, 1), PlannedOperation::Read(length(rng, 1))],
+    };
+    scatter(rng, &whole)
+}
+
+/// These operations in parts, and empty ones put in anywhere: dropped and joined again, they are the same.
+pub fn scatter(rng: &mut Rng, operations: &[PlannedOperation]) -> Vec<PlannedOperation> {
+    let mut parts = Vec::new();
+    for operation in operations {
+        let mut rest = operation.clone();
+        let mut cuts: usize = rng.pick(&[0, 0, 1, 1, 2, 3]);
+        while cuts > 0 || rest.len() > limit::OPERATION_BYTES {
+            let bytes = rng.below(rest.len().min(limit::OPERATION_BYTES) + 1);
+            parts.push(rest.take(bytes));
+            cuts = cuts.saturating_sub(1);
+        }
+        parts.push(rest);
+    }
+    for _ in 0..rng.pick(&[0, 0, 1, 1, 2, 3]) {
+        let at = rng.below(parts.len() + 1);
+        parts.insert(at, empty(rng));
+    }
+    parts
+}
+
+fn empty(rng: &mut Rng) -> PlannedOperation {
+    if rng.percent(50) {
+        PlannedOperation::Write(vec![])
+    } else {
+        PlannedOperation::Read(0)
+    }
 }
 
 fn operation(rng: &mut Rng) -> PlannedOperation {
@@ -143,39 +185,67 @@ fn length(rng: &mut Rng, least: usize) -> usize {
     }
 }
 
-/// Brings a plan to a limit: the longest operation, the most operations, or the longest list.
+/// Brings a plan to a limit: the longest operation, the most operations, the longest list, or a combined
+/// transaction longer than an operation can be.
 fn lengthen(rng: &mut Rng, plan: &mut Plan) {
-    let transaction = PlannedCall {
-        kind: 3,
+    // Few enough that the bytes written below fit the list.
+    plan.calls.truncate(rng.pick(&[0, 2, 6]));
+    let listed = plan.calls.iter().map(|call| call.operations.len());
+    let room = limit::OPERATIONS - listed.sum::<usize>();
+    let (kind, operations) = long_call(rng, room);
+    plan.calls.push(PlannedCall {
+        kind,
         width: 7,
         address: 0x50,
-        operations: vec![],
-    };
-    // Few enough that the bytes written below fit the list.
-    plan.calls.truncate(6);
-    plan.calls.push(transaction);
-    let room = limit::OPERATIONS
-        - plan
-            .calls
-            .iter()
-            .map(|call| call.operations.len())
-            .sum::<usize>();
-    let operations = match rng.below(3) {
-        0 => vec![PlannedOperation::Read(limit::OPERATION_BYTES)],
-        1 => (0..room).map(|_| PlannedOperation::Read(1)).collect(),
-        _ => (0..7)
-            .map(|_| PlannedOperation::Write(rng.bytes(limit::OPERATION_BYTES)))
-            .collect(),
-    };
-    let last = plan.calls.len() - 1;
-    plan.calls[last].operations = operations;
+        operations,
+    });
     let bytes = plan.bytes().len();
     if bytes > 28_000 && bytes < limit::LIST_BYTES - buslist::ENTRY {
         let rest = limit::LIST_BYTES - buslist::ENTRY - bytes;
+        let last = plan.calls.len() - 1;
         plan.calls[last]
             .operations
             .push(PlannedOperation::Write(rng.bytes(rest)));
     }
+}
+
+/// The kind and the operations of a long call, of which there may be so many.
+fn long_call(rng: &mut Rng, room: usize) -> (u8, Vec<PlannedOperation>) {
+    match rng.below(8) {
+        0 => (3, vec![PlannedOperation::Read(limit::OPERATION_BYTES)]),
+        1 => (3, vec![PlannedOperation::Read(1); room]),
+        2 => (3, longest_writes(rng)),
+        3 => (7, longest_writes(rng)),
+        4 | 5 => (7, most_operations(rng, room)),
+        6 => {
+            let written = rng.range(limit::OPERATION_BYTES + 1, 3 * limit::OPERATION_BYTES);
+            let write = PlannedOperation::Write(rng.bytes(written));
+            let read = PlannedOperation::Read(length(rng, 0));
+            (7, scatter(rng, &[write, read]))
+        }
+        _ => {
+            // Cut to 16 bits, some of these would be reads of 0, 1, 2 and 3.
+            let received = 65_536 + rng.pick(&[0, 1, 2, 3, 4_096]);
+            (7, scatter(rng, &[PlannedOperation::Read(received)]))
+        }
+    }
+}
+
+fn longest_writes(rng: &mut Rng) -> Vec<PlannedOperation> {
+    (0..7)
+        .map(|_| PlannedOperation::Write(rng.bytes(limit::OPERATION_BYTES)))
+        .collect()
+}
+
+/// A combined transaction of so many operations: parts of a write, then parts of a read, empty ones among both.
+fn most_operations(rng: &mut Rng, count: usize) -> Vec<PlannedOperation> {
+    let written = rng.below(count + 1);
+    let part = |at| match rng.below(3) {
+        0 => empty(rng),
+        length if at < written => PlannedOperation::Write(rng.bytes(length)),
+        length => PlannedOperation::Read(length),
+    };
+    (0..count).map(part).collect()
 }
 
 #[cfg(test)]
@@ -184,7 +254,7 @@ mod tests {
 
     #[test]
     fn plans_are_accepted_and_reach_the_limits() {
-        let mut reached = [false; 4];
+        let mut reached = [false; 7];
         for case in 0..20_000 {
             let plan = plan(&mut Rng::of(2, case));
             let list = plan.bytes();
@@ -200,7 +270,15 @@ mod tests {
             reached[1] |= plan.calls.len() == limit::CALLS;
             reached[2] |= operations.len() == limit::OPERATIONS;
             reached[3] |= longest == Some(limit::OPERATION_BYTES);
+            for call in plan.calls.iter().filter(|call| call.kind == 7) {
+                let whole = buslist::combined(&call.operations);
+                let longest = whole.iter().map(|operation| operation.len()).max();
+                reached[4] |= call.operations.len() == limit::OPERATIONS;
+                reached[5] |= list.len() == limit::LIST_BYTES;
+                // Cut to 16 bits it would be a read of one.
+                reached[6] |= longest == Some(65_537);
+            }
         }
-        assert_eq!(reached, [true; 4]);
+        assert_eq!(reached, [true; 7]);
     }
 }

@@ -90,7 +90,7 @@ fn smaller_plans(plan: Plan) -> impl Iterator<Item = Plan> {
     }
     for k in 0..plan.calls.len() {
         for j in 0..plan.calls[k].operations.len() {
-            if plan.calls[k].kind == 3 {
+            if matches!(plan.calls[k].kind, 3 | 7) {
                 let mut fewer = plan.clone();
                 fewer.calls[k].operations.remove(j);
                 plans.push(fewer);

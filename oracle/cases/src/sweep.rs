@@ -18,8 +18,37 @@ fn write(length: u8) -> PlannedOperation {
 }
 
 fn plans() -> impl Iterator<Item = Plan> {
+    let settings = Settings {
+        sysclk: 1_000_000,
+        start_timeout: LIMIT,
+        start_retries: 2,
+        address_timeout: LIMIT,
+        data_timeout: LIMIT,
+        ..Settings::example()
+    };
+    let call = |kind, operations| PlannedCall {
+        kind,
+        width: 7,
+        address: 0x2A,
+        operations,
+    };
+    let calls = calls()
+        .into_iter()
+        .chain(combined().map(|whole| (7, whole)));
+    // A second call shows that nothing of the first is carried over.
+    calls.map(move |(kind, operations)| Plan {
+        settings,
+        calls: vec![
+            call(kind, operations),
+            call(5, vec![PlannedOperation::Read(1)]),
+        ],
+    })
+}
+
+/// Calls of each kind, but for combined transactions that are accepted.
+fn calls() -> Vec<(u8, Vec<PlannedOperation>)> {
     let read = PlannedOperation::Read;
-    let operations = vec![
+    vec![
         (0, vec![write(0)]),
         (0, vec![write(2)]),
         (1, vec![read(0)]),
@@ -40,30 +69,38 @@ fn plans() -> impl Iterator<Item = Plan> {
         (6, vec![write(1), read(0)]),
         (6, vec![write(0), read(1)]),
         (6, vec![write(2), read(2)]),
+        // Refused: 26 for each received buffer that is too short, else 27.
+        (7, vec![read(1), write(1)]),
+        (7, vec![write(1), read(1), read(0), write(2), read(1)]),
+    ]
+}
+
+/// Combined transactions: nothing, joined writes, joined reads for each arm of the Rust's `read`, and both; each as it
+/// is, and with an empty operation of each direction in each place.
+fn combined() -> impl Iterator<Item = Vec<PlannedOperation>> {
+    let read = PlannedOperation::Read;
+    let whole = [
+        vec![],
+        vec![write(1), write(2)],
+        vec![read(1)],
+        vec![read(1), read(1)],
+        vec![read(2), read(1)],
+        vec![read(3), read(2)],
+        vec![write(2), read(1), read(1)],
+        vec![write(2), write(1), read(1)],
     ];
-    let settings = Settings {
-        sysclk: 1_000_000,
-        start_timeout: LIMIT,
-        start_retries: 2,
-        address_timeout: LIMIT,
-        data_timeout: LIMIT,
-        ..Settings::example()
-    };
-    operations.into_iter().map(move |(kind, operations)| {
-        let call = |kind, operations| PlannedCall {
-            kind,
-            width: 7,
-            address: 0x2A,
-            operations,
-        };
-        // A second call shows that nothing of the first is carried over.
-        Plan {
-            settings,
-            calls: vec![
-                call(kind, operations),
-                call(5, vec![PlannedOperation::Read(1)]),
-            ],
-        }
+    whole.into_iter().flat_map(move |whole| {
+        let places = 0..=whole.len();
+        let empties = places.flat_map(move |at| [(at, write(0)), (at, read(0))]);
+        let parted = empties.map({
+            let whole = whole.clone();
+            move |(at, empty)| {
+                let mut operations = whole.clone();
+                operations.insert(at, empty);
+                operations
+            }
+        });
+        std::iter::once(whole).chain(parted)
     })
 }
 

@@ -4,11 +4,12 @@ use std::fmt;
 
 use buslist::List;
 
+use crate::combined::Combined;
 use crate::{Case, Ran};
 
-const KINDS: usize = 7;
+const KINDS: usize = 8;
 const ENDINGS: usize = 11;
-const REFUSALS: std::ops::RangeInclusive<u32> = 20..=26;
+const REFUSALS: std::ops::RangeInclusive<u32> = 20..=27;
 
 #[derive(Default)]
 pub struct Tally {
@@ -16,11 +17,13 @@ pub struct Tally {
     accepted: u64,
     /// Accepted lists that answer 0 with several calls.
     several: u64,
-    answers: [u64; 27],
+    answers: [u64; 28],
     /// Calls by kind and by the ending of the call; the last call of a run ends as the run does.
     endings: [[u64; ENDINGS]; KINDS],
     /// Runs that ended in the bring-up.
     bring_up: [u64; ENDINGS],
+    /// Lists with combined transactions.
+    combined: Combined,
 }
 
 /// Whether a call of this kind can end so.
@@ -31,7 +34,7 @@ fn can_end(kind: usize, ending: usize) -> bool {
         // Before its address is sent, a polling read meets no check: no NoAcknowledge stays Unknown.
         (1, 4) => false,
         // The blocking poll does not look at PECERR.
-        (4..=6, 7) => false,
+        (4..=7, 7) => false,
         _ => true,
     }
 }
@@ -51,6 +54,7 @@ impl Tally {
         self.cases += 1;
         let answer = ran.answer();
         self.answers[answer as usize] += 1;
+        self.combined.count(case, ran);
         if REFUSALS.contains(&answer) {
             return;
         }
@@ -99,6 +103,7 @@ impl Tally {
                 self.several, self.accepted
             ));
         }
+        short.extend(self.combined.shortfalls());
         short
     }
 
@@ -139,7 +144,7 @@ impl fmt::Display for Tally {
         for count in self.bring_up {
             write!(f, "{count:8}")?;
         }
-        Ok(())
+        write!(f, "\n{}", self.combined)
     }
 }
 

@@ -1,6 +1,8 @@
 //! Runs a whole bus list on the original: the bring-up once, then the calls in order.
 
-use buslist::{List, Mode as ListedMode, Operation as Listed, Settings};
+use buslist::{
+    List, Mode as ListedMode, Operation as Listed, PlannedCall, PlannedOperation, Settings,
+};
 use device::{Cut, Feed, Usage};
 use embedded_hal::i2c::{I2c as Bus, Operation};
 
@@ -99,35 +101,76 @@ fn blocking(settings: &Settings, rcc: &mut Rcc) -> BlockingI2c<I2C1> {
     )
 }
 
+/// The two drivers of a run, over one device.
+struct Drivers {
+    settings: Settings,
+    rcc: Rcc,
+    polling: I2c<I2C1>,
+    /// Made for the first call that needs it.
+    blocking: Option<BlockingI2c<I2C1>>,
+}
+
+impl Drivers {
+    /// With the run's bring-up.
+    fn new(settings: Settings) -> Drivers {
+        let mut rcc = Rcc::at(settings.pclk1, settings.sysclk);
+        Drivers {
+            polling: bring_up(settings.mode, settings.frequency, &mut rcc),
+            settings,
+            rcc,
+            blocking: None,
+        }
+    }
+
+    fn call(
+        &mut self,
+        kind: u8,
+        address: u8,
+        operations: &mut [Operation<'_>],
+    ) -> Result<(), Error> {
+        if kind < 4 {
+            return polling_call(&mut self.polling, kind, address, operations);
+        }
+        let blocking = self
+            .blocking
+            .get_or_insert_with(|| blocking(&self.settings, &mut self.rcc));
+        blocking_call(blocking, kind, address, operations)
+    }
+}
+
 fn perform(list: &List, rx: &mut [u8], ended_well: &mut usize) -> Result<(), Error> {
-    let settings = list.settings();
-    let mut rcc = Rcc::at(settings.pclk1, settings.sysclk);
-    let mut polling = bring_up(settings.mode, settings.frequency, &mut rcc);
-    let mut blocked = None;
+    let mut drivers = Drivers::new(list.settings());
     let mut operations = Vec::new();
     let mut rx = rx;
     for call in list.calls() {
-        operations.clear();
-        for listed in list.operations(&call) {
-            operations.push(match listed {
-                Listed::Write(bytes) => Operation::Write(bytes),
-                Listed::Read(length) => {
-                    let (buffer, rest) = std::mem::take(&mut rx).split_at_mut(length);
-                    rx = rest;
-                    Operation::Read(buffer)
-                }
-            });
-        }
         let address = call.address as u8;
-        if call.kind < 4 {
-            polling_call(&mut polling, call.kind, address, &mut operations)?;
+        if call.kind == 7 {
+            // The Rust has `todo!()` for blocking transactions: it is given the plain call on joined operations.
+            if let Some(plain) = PlannedCall::of(list, &call).plain() {
+                let listed = plain.operations.iter().map(PlannedOperation::listed);
+                let mut operations: Vec<_> = listed.map(|listed| lend(listed, &mut rx)).collect();
+                drivers.call(plain.kind, address, &mut operations)?;
+            }
         } else {
-            let blocking = blocked.get_or_insert_with(|| blocking(&settings, &mut rcc));
-            blocking_call(blocking, call.kind, address, &mut operations)?;
+            operations.clear();
+            operations.extend(list.operations(&call).map(|listed| lend(listed, &mut rx)));
+            drivers.call(call.kind, address, &mut operations)?;
         }
         *ended_well += 1;
     }
     Ok(())
+}
+
+/// An operation for the Rust; a read takes its bytes off the received buffer.
+fn lend<'o, 'r: 'o>(listed: Listed<'o>, rx: &mut &'r mut [u8]) -> Operation<'o> {
+    match listed {
+        Listed::Write(bytes) => Operation::Write(bytes),
+        Listed::Read(length) => {
+            let (buffer, rest) = std::mem::take(rx).split_at_mut(length);
+            *rx = rest;
+            Operation::Read(buffer)
+        }
+    }
 }
 
 fn polling_call(
@@ -166,14 +209,18 @@ fn blocking_call(
 #[cfg(test)]
 mod tests {
     use super::*;
-    use buslist::{Plan, PlannedCall, PlannedOperation};
+    use buslist::Plan;
 
     fn list(settings: Settings, kind: u8, operation: PlannedOperation) -> Vec<u8> {
+        list_of(settings, kind, vec![operation])
+    }
+
+    fn list_of(settings: Settings, kind: u8, operations: Vec<PlannedOperation>) -> Vec<u8> {
         let call = PlannedCall {
             kind,
             width: 7,
             address: 0x50,
-            operations: vec![operation],
+            operations,
         };
         Plan {
             settings,
@@ -248,5 +295,64 @@ mod tests {
         assert_eq!(answer(&polling, &[0, 0, 0, 0xC00]), (1, 4));
         let blocking = list(Settings::example(), 4, PlannedOperation::Write(vec![1]));
         assert_eq!(answer(&blocking, &[0, 0, 0, 0xC00, 0]), (2, 5));
+    }
+
+    /// A combined transaction, access for access as document 01 has write_read: two bytes written, two received.
+    #[test]
+    fn a_combined_transaction() {
+        // Start: SR1 0, START, timed SB. Then the address, timed ADDR.
+        let start = |address| {
+            [
+                15, 0, 3, 1, 11, 0x101, 5, 0, 1, 0xC7, 1, 0xC7, 16, address, 5, 0, 1, 0xC7,
+            ]
+        };
+        // The first byte; timed TXE and the second; timed BTF, and no closing.
+        let written = [
+            1, 0xC7, 2, 3, 16, 0x1A, 5, 0, 1, 0xC7, 16, 0x2B, 5, 0, 1, 0xC7,
+        ];
+        // The arm of two bytes: POS and ACK, ACK off, timed BTF, STOP, both bytes.
+        let received = [
+            3, 1, 11, 0xC01, 1, 0xC7, 2, 3, 3, 1, 11, 1, 5, 0, 1, 0xC7, 3, 1, 11, 0x201, 4, 0x55,
+            4, 0x66,
+        ];
+        // Timed wait for STOP; POS and ACK off, ACK on.
+        let closed = [5, 0, 3, 1, 3, 1, 11, 1, 3, 1, 11, 0x401];
+        let expected = [&start(0xA0)[..], &written, &start(0xA1), &received, &closed].concat();
+        let mut settings = Settings::example();
+        settings.start_retries = 1;
+        let (read, write) = (PlannedOperation::Read, PlannedOperation::Write);
+        let [one, two, empty] = [&[0x1A][..], &[0x2B], &[]].map(|bytes| write(bytes.to_vec()));
+        let operations = vec![one, read(0), two, read(1), empty, read(1)];
+        let bytes = list_of(settings, 7, operations);
+        let taken = expected.chunks(2).filter(|access| access[0] <= 5);
+        let taken: Vec<u32> = taken.map(|access| access[1]).collect();
+        // The bring-up reads CR1.
+        let readings = [&[1], &taken[..]].concat();
+        let (mut rx, mut record) = ([0; 2], [0; 200]);
+        let counts = run(&List::accepted(&bytes), &readings, &mut rx, &mut record);
+        assert_eq!(
+            (counts.answer, counts.calls, counts.used),
+            (0, 1, readings.len())
+        );
+        assert_eq!(record[10..2 * counts.made], expected);
+        assert_eq!((counts.received, rx), (2, [0x55, 0x66]));
+    }
+
+    /// With nothing left after the empty ones: the bring-up alone, and the call has ended well.
+    #[test]
+    fn an_idle_combined_transaction() {
+        let empty = vec![PlannedOperation::Write(vec![]), PlannedOperation::Read(0)];
+        for operations in [vec![], empty] {
+            let bytes = list_of(Settings::example(), 7, operations);
+            let counts = run(&List::accepted(&bytes), &[0], &mut [], &mut [0; 10]);
+            let expected = Counts {
+                answer: 0,
+                calls: 1,
+                used: 1,
+                made: 5,
+                received: 0,
+            };
+            assert_eq!(counts, expected);
+        }
     }
 }

@@ -1,6 +1,7 @@
-//! What the original Rust does with lists that the engine refuses, each by its smallest input.
+//! What the original Rust does where the engine does something else, each by its smallest input.
 //!
-//! These are the intended differences: document 01 gives each a cause from 22 on.
+//! These are the intended differences: document 01 gives all but the last a cause from 22 on, and document 02 gives the
+//! last a meaning.
 
 use buslist::{refusal, List, Mode, Plan, PlannedCall, PlannedOperation, Settings};
 use device::{code, ENTRY_WORDS};
@@ -110,4 +111,18 @@ fn timeouts_overflow() {
     let readings = [0, 0, 0, 0, 32];
     let counts = original::run(&List::accepted(&list), &readings, &mut [], &mut [0; 100]);
     assert_eq!((counts.answer, counts.used), (5, 5));
+}
+
+/// What kind 7 would be to the Rust: not even a transaction without operations is done.
+#[test]
+#[should_panic(expected = "not yet implemented")]
+fn blocking_transactions_panic() {
+    let mut record = [0; 100];
+    let _ = device::run(&[0xC7; 100], &mut record, || {
+        let mut rcc = original::rcc::Rcc::at(36_000_000, 72_000_000);
+        let mode = original::i2c::Mode::standard(original::time::Hz(100_000));
+        let i2c = original::i2c::I2c::<I2C1>::new::<0>(I2C1, ((), ()), mode, &mut rcc);
+        let mut blocking = i2c.blocking(0, 0, 0, 0, &rcc.clocks);
+        blocking.transaction_slice(0x50, &mut [])
+    });
 }

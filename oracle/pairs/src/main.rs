@@ -80,16 +80,16 @@ fn near_misses(pairs: u64, seed: u64) -> bool {
             println!("near miss {number} of seed {seed}: unlike reduced calls, equal records");
             return keep(&near.first, &near.second);
         }
-        nears.count(near.miss, near.blocking, &near.ran, &again);
+        nears.count(near.miss, near.kind, &near.ran, &again);
     }
     println!("{nears}");
     enough(&nears.shortfalls())
 }
 
 struct NearMiss {
-    /// What differs, and the engine of the call where it does.
+    /// What differs, and the kind of the call where it does.
     miss: usize,
-    blocking: bool,
+    kind: u8,
     first: Case,
     /// The first's run, which answers 0.
     ran: Ran,
@@ -103,7 +103,7 @@ fn near_miss(seed: u64, number: u64) -> Option<NearMiss> {
     let one = comparable(rng);
     let miss = rng.below(near::MISSES.len());
     let place = rng.below(one.calls.len());
-    let blocking = is_blocking(one.calls.get(place)?);
+    let kind = one.calls.get(place)?.kind;
     let other = near::miss(rng, &one, miss, place)?;
     if other.calls.iter().any(idle) || reduced(&one) == reduced(&other) {
         return None;
@@ -116,7 +116,7 @@ fn near_miss(seed: u64, number: u64) -> Option<NearMiss> {
     };
     Some(NearMiss {
         miss,
-        blocking,
+        kind,
         first,
         ran,
         second,

@@ -1,9 +1,9 @@
 //! Lists that nearly have equal reduced calls: one thing differs.
 
-use buslist::{Plan, PlannedCall, PlannedOperation};
+use buslist::{combined, plain_kind, Plan, PlannedCall, PlannedOperation};
 use cases::Rng;
 
-use crate::reduce::{full, is_blocking, joined};
+use crate::reduce::is_blocking;
 
 /// Changes one thing in the call at this place, where it has a place for it.
 type Change = fn(&mut Rng, &mut Plan, usize) -> Option<()>;
@@ -69,25 +69,21 @@ fn cut(rng: &mut Rng, plan: &mut Plan, place: usize) -> Option<()> {
     let parted = second.first_mut()?;
     let bytes = rng.below(parted.len().max(1));
     if bytes > 0 {
-        first.push(take(parted, bytes));
+        first.push(parted.take(bytes));
     }
-    let parts = [with(call, first)?, with(call, second)?];
+    let parts = [with(rng, call, first)?, with(rng, call, second)?];
     plan.calls.splice(place..=place, parts);
     Some(())
 }
 
 /// Two neighbours of one engine as one call, to the address of the first.
-fn join(_: &mut Rng, plan: &mut Plan, place: usize) -> Option<()> {
+fn join(rng: &mut Rng, plan: &mut Plan, place: usize) -> Option<()> {
     let (call, next) = (&plan.calls[place], plan.calls.get(place + 1)?);
     if is_blocking(call) != is_blocking(next) {
         return None;
     }
-    let mut operations = [&call.operations[..], &next.operations].concat();
-    if is_blocking(call) {
-        // A blocking call has room for one write and one read.
-        operations = joined(&full(&operations));
-    }
-    plan.calls[place] = with(call, operations)?;
+    let operations = [&call.operations[..], &next.operations].concat();
+    plan.calls[place] = with(rng, call, operations)?;
     plan.calls.remove(place + 1);
     Some(())
 }
@@ -98,9 +94,11 @@ fn change_engine(_: &mut Rng, plan: &mut Plan, place: usize) -> Option<()> {
         0 => 4,
         1 => 5,
         2 => 6,
+        3 => 7,
         4 => 0,
         5 => 1,
         6 => 2,
+        7 => 3,
         _ => return None,
     };
     Some(())
@@ -134,27 +132,21 @@ fn any_read<'a>(rng: &mut Rng, call: &'a mut PlannedCall) -> Option<&'a mut usiz
     (!reads.is_empty()).then(|| reads.swap_remove(rng.below(reads.len())))
 }
 
-/// The first bytes of an operation, taken off it.
-fn take(operation: &mut PlannedOperation, bytes: usize) -> PlannedOperation {
-    match operation {
-        PlannedOperation::Write(all) => PlannedOperation::Write(all.drain(..bytes).collect()),
-        PlannedOperation::Read(length) => {
-            *length -= bytes;
-            PlannedOperation::Read(bytes)
-        }
+/// The call with these operations in place of its own. A blocking one is a combined transaction of them, or the plain
+/// call that it comes to.
+fn with(
+    rng: &mut Rng,
+    call: &PlannedCall,
+    operations: Vec<PlannedOperation>,
+) -> Option<PlannedCall> {
+    if operations.is_empty() {
+        return None;
     }
-}
-
-/// The call with these operations in place of its own, where its engine has a kind for them.
-fn with(call: &PlannedCall, operations: Vec<PlannedOperation>) -> Option<PlannedCall> {
-    use PlannedOperation::{Read, Write};
-    let kind = match (is_blocking(call), &operations[..]) {
-        (_, []) => return None,
-        (false, _) => 3,
-        (true, [Write(_)]) => 4,
-        (true, [Read(_)]) => 5,
-        (true, [Write(_), Read(_)]) => 6,
-        (true, _) => return None,
+    let whole = combined(&operations);
+    let (kind, operations) = match plain_kind(&whole) {
+        _ if !is_blocking(call) => (3, operations),
+        Some(plain) if rng.percent(50) => (plain, whole),
+        _ => (7, operations),
     };
     Some(PlannedCall {
         kind,
@@ -203,6 +195,10 @@ mod tests {
             (6, [4, 5]),
             (6, [4, 6]),
             (6, [6, 5]),
+            (7, [4, 4]),
+            (7, [5, 7]),
+            (7, [4, 5]),
+            (7, [7, 7]),
         ];
         for (kind, parts) in forms {
             assert!(cuts.contains(&(vec![kind], parts.to_vec())), "{parts:?}");

@@ -1,6 +1,6 @@
-//! The reduced call of document 01.
+//! The reduced call of document 01, and of document 02 for kind 7.
 
-use buslist::{Plan, PlannedCall, PlannedOperation};
+use buslist::{combined, joined, Plan, PlannedCall, PlannedOperation};
 
 #[derive(Debug, PartialEq, Eq)]
 pub struct Reduced {
@@ -18,7 +18,7 @@ pub fn reduced(plan: &Plan) -> Vec<Reduced> {
 pub fn idle(call: &PlannedCall) -> bool {
     match call.kind {
         3 => call.operations.is_empty(),
-        6 => call.operations.iter().all(PlannedOperation::is_empty),
+        6 | 7 => call.operations.iter().all(PlannedOperation::is_empty),
         _ => false,
     }
 }
@@ -29,8 +29,9 @@ pub fn is_blocking(call: &PlannedCall) -> bool {
 
 fn reduce(call: &PlannedCall) -> Reduced {
     let blocking = is_blocking(call);
+    // The operations of kinds 4 to 6 are never joined: no two are of one direction.
     let operations = if blocking {
-        full(&call.operations)
+        combined(&call.operations)
     } else {
         joined(&call.operations)
     };
@@ -41,23 +42,46 @@ fn reduce(call: &PlannedCall) -> Reduced {
     }
 }
 
-/// Empty operations dropped.
-pub fn full(operations: &[PlannedOperation]) -> Vec<PlannedOperation> {
-    let full = operations.iter().filter(|operation| !operation.is_empty());
-    full.cloned().collect()
-}
+#[cfg(test)]
+mod tests {
+    use super::*;
+    use PlannedOperation::{Read, Write};
 
-/// Neighbours of one direction joined: the bytes of writes in order, the lengths of reads summed.
-pub fn joined(operations: &[PlannedOperation]) -> Vec<PlannedOperation> {
-    let mut joined: Vec<PlannedOperation> = Vec::new();
-    for operation in operations {
-        match (joined.last_mut(), operation) {
-            (Some(PlannedOperation::Write(bytes)), PlannedOperation::Write(more)) => {
-                bytes.extend_from_slice(more)
-            }
-            (Some(PlannedOperation::Read(length)), PlannedOperation::Read(more)) => *length += more,
-            _ => joined.push(operation.clone()),
+    fn call(kind: u8, operations: &[PlannedOperation]) -> PlannedCall {
+        PlannedCall {
+            kind,
+            width: 7,
+            address: 0x50,
+            operations: operations.to_vec(),
         }
     }
-    joined
+
+    fn write(bytes: &[u8]) -> PlannedOperation {
+        Write(bytes.to_vec())
+    }
+
+    /// Document 02: the reduced form of a combined transaction is its joined form.
+    #[test]
+    fn combined_transactions_reduce_to_plain_calls() {
+        let combined = call(7, &[write(&[1]), Read(0), write(&[2]), Read(1), Read(2)]);
+        let plain = call(6, &[write(&[1, 2]), Read(3)]);
+        assert_eq!(reduce(&combined), reduce(&plain));
+        let combined = call(7, &[Read(1), write(&[]), Read(1)]);
+        assert_eq!(reduce(&combined), reduce(&call(5, &[Read(2)])));
+        // Bytes in their order, and no polling call is equal.
+        let combined = call(7, &[write(&[1]), write(&[2])]);
+        assert_eq!(reduce(&combined), reduce(&call(4, &[write(&[1, 2])])));
+        assert_ne!(reduce(&combined), reduce(&call(4, &[write(&[2, 1])])));
+        assert_ne!(reduce(&combined), reduce(&call(0, &[write(&[1, 2])])));
+    }
+
+    /// Document 02: with nothing left a combined transaction is idle. A polling one has to list nothing.
+    #[test]
+    fn idle_calls() {
+        for operations in [vec![], vec![write(&[])], vec![Read(0), write(&[])]] {
+            assert!(idle(&call(7, &operations)));
+            assert_eq!(idle(&call(3, &operations)), operations.is_empty());
+        }
+        assert!(!idle(&call(7, &[Read(0), Read(1)])));
+    }
 }

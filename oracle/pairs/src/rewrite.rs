@@ -1,7 +1,7 @@
 //! Another list with equal reduced calls.
 
-use buslist::{limit, Plan, PlannedCall, PlannedOperation};
-use cases::Rng;
+use buslist::{combined, limit, plain_kind, Plan, PlannedCall, PlannedOperation};
+use cases::{scatter, Rng};
 
 use crate::reduce::is_blocking;
 
@@ -9,7 +9,7 @@ use crate::reduce::is_blocking;
 type Way = fn(&PlannedCall, &PlannedCall) -> bool;
 
 /// The ways in which a call is written anew, for the counts.
-pub const WAYS: [(&str, Way); 5] = [
+pub const WAYS: [(&str, Way); 8] = [
     ("a plain polling call as a transaction", |call, again| {
         call.kind < 3 && again.kind == 3
     }),
@@ -25,6 +25,18 @@ pub const WAYS: [(&str, Way); 5] = [
     ("a write_read as a blocking write or read", |call, again| {
         call.kind == 6 && matches!(again.kind, 4 | 5)
     }),
+    (
+        "a plain blocking call as a combined transaction",
+        |call, again| (4..=6).contains(&call.kind) && again.kind == 7,
+    ),
+    (
+        "a combined transaction as a plain blocking call",
+        |call, again| call.kind == 7 && (4..=6).contains(&again.kind),
+    ),
+    (
+        "a combined transaction with other operations",
+        |call, again| call.kind == 7 && again.kind == 7 && call.operations != again.operations,
+    ),
 ];
 
 /// A plan with the same reduced calls; often other kinds and operations.
@@ -42,7 +54,6 @@ pub fn alike(rng: &mut Rng, plan: &Plan) -> Plan {
     }
     let operations: usize = other.calls.iter().map(|call| call.operations.len()).sum();
     let within = operations <= limit::OPERATIONS && other.bytes().len() <= limit::LIST_BYTES;
-    let short = |operation: &PlannedOperation| operation.len() <= limit::OPERATION_BYTES;
     if within
         && other
             .calls
@@ -94,21 +105,26 @@ fn push(rng: &mut Rng, operations: &mut Vec<PlannedOperation>, operation: &Plann
     }
 }
 
-/// A write_read with an empty half, or the plain call that it comes to.
+/// A combined transaction with its operations split anew, the plain call that it comes to, or a write_read with an
+/// empty half.
 fn blocking(rng: &mut Rng, call: &PlannedCall) -> PlannedCall {
     use PlannedOperation::{Read, Write};
-    let (kind, operations) = match &call.operations[..] {
-        [write @ Write(_)] => (6, vec![write.clone(), Read(0)]),
-        [read @ Read(_)] => (6, vec![Write(vec![]), read.clone()]),
-        [write @ Write(_), Read(0)] if rng.percent(70) => (4, vec![write.clone()]),
-        [Write(bytes), read @ Read(_)] if bytes.is_empty() && rng.percent(70) => {
-            (5, vec![read.clone()])
-        }
-        _ => return call.clone(),
+    let whole = combined(&call.operations);
+    let fits = whole.iter().all(short);
+    let (kind, operations) = match (rng.below(3), &whole[..]) {
+        (0, [write @ Write(_)]) if fits => (6, vec![write.clone(), Read(0)]),
+        (0, [read @ Read(_)]) if fits => (6, vec![Write(vec![]), read.clone()]),
+        (0 | 1, _) if fits => (plain_kind(&whole).expect("an accepted call"), whole),
+        _ => (7, scatter(rng, &whole)),
     };
     PlannedCall {
         kind,
         operations,
         ..call.clone()
     }
+}
+
+/// Whether an operation is within the limit of one.
+fn short(operation: &PlannedOperation) -> bool {
+    operation.len() <= limit::OPERATION_BYTES
 }

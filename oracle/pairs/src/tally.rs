@@ -1,6 +1,7 @@
 //! What a search went through. One that met too little of something shows nothing, and fails.
 
 use std::fmt;
+use std::ops::RangeInclusive;
 
 use buslist::Plan;
 use cases::Ran;
@@ -50,7 +51,7 @@ impl fmt::Display for Likes {
         )?;
         write!(f, "  by answer, 0 to 10: {:?}", self.answers)?;
         for ((name, _), count) in WAYS.iter().zip(self.ways) {
-            write!(f, "\n  {name:42} {count:7}")?;
+            write!(f, "\n  {name:48} {count:7}")?;
         }
         Ok(())
     }
@@ -59,18 +60,26 @@ impl fmt::Display for Likes {
 /// Near misses, and how many came close: all, both answer 0, and of these records as long.
 #[derive(Default)]
 pub struct Nears {
-    /// By what differs, and by the engine of the call where it does: polling, blocking.
-    counts: [[[u64; 3]; 2]; MISSES.len()],
+    /// By what differs, and by the kind of the call where it does.
+    counts: [[[u64; 3]; KINDS.len()]; MISSES.len()],
 }
 
+/// The kinds that are counted apart.
+const KINDS: [(&str, RangeInclusive<u8>); 3] = [
+    ("polling", 0..=3),
+    ("plain blocking", 4..=6),
+    ("combined", 7..=7),
+];
+
 impl Nears {
-    /// A near miss: what differs, its engine, the first's run, which answers 0, and the second's.
-    pub fn count(&mut self, miss: usize, blocking: bool, ran: &Ran, again: &Ran) {
+    /// A near miss: what differs, the kind of its call, the first's run, which answers 0, and the second's.
+    pub fn count(&mut self, miss: usize, kind: u8, ran: &Ran, again: &Ran) {
         let both_well = again.answer() == 0;
         let as_long = both_well && ran.counts[3] == again.counts[3];
-        let counts = &mut self.counts[miss][usize::from(blocking)];
-        for (count, met) in counts.iter_mut().zip([true, both_well, as_long]) {
-            *count += u64::from(met);
+        for (counts, (_, kinds)) in self.counts[miss].iter_mut().zip(KINDS) {
+            for (count, met) in counts.iter_mut().zip([true, both_well, as_long]) {
+                *count += u64::from(met && kinds.contains(&kind));
+            }
         }
     }
 
@@ -82,9 +91,9 @@ impl Nears {
         let named = MISSES
             .iter()
             .zip(self.counts)
-            .flat_map(|((name, _), [polling, blocking])| {
-                [("polling", polling), ("blocking", blocking)]
-                    .map(|(engine, [all, ..])| (format!("{name}, {engine}"), all))
+            .flat_map(|((name, _), counts)| {
+                let of_kinds = KINDS.into_iter().zip(counts);
+                of_kinds.map(move |((kinds, _), [all, ..])| (format!("{name}, {kinds}"), all))
             });
         too_few(self.together()[0], named)
     }
@@ -97,14 +106,13 @@ impl fmt::Display for Nears {
             f,
             "near misses: {all}, of these both answer 0 {both_well}, with records as long {as_long}, equal 0"
         )?;
-        write!(
-            f,
-            "  {:31} {:>24} {:>24}",
-            "all, both 0, as long", "polling", "blocking"
-        )?;
-        for ((name, _), engines) in MISSES.iter().zip(self.counts) {
+        write!(f, "  {:31}", "all, both 0, as long")?;
+        for (kinds, _) in KINDS {
+            write!(f, " {kinds:>24}")?;
+        }
+        for ((name, _), counts) in MISSES.iter().zip(self.counts) {
             write!(f, "\n  {name:31}")?;
-            for [all, both_well, as_long] in engines {
+            for [all, both_well, as_long] in counts {
                 write!(f, " {all:8}{both_well:8}{as_long:8}")?;
             }
         }

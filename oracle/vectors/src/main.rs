@@ -12,6 +12,9 @@ use device::ENTRY_WORDS;
 const LOOKED_AT: u64 = 200_000;
 /// The longest case that is kept, in words of the file.
 const LONGEST: usize = 600;
+/// The longest buffers that the program `replay` has: bytes received, words of the record.
+const ROOM: usize = 4_096;
+const WORDS: usize = 2_048;
 /// Cases kept of each ending: of a call of one kind, of a run that ends well, and of a refusal.
 const OF_A_CALL: usize = 4;
 const WELL: usize = 60;
@@ -33,7 +36,7 @@ fn main() -> ExitCode {
         let case = generate(seed, number);
         let ran = judge(&case);
         let vector = vector(&case, &ran);
-        if vector.len() > LONGEST {
+        if vector.len() > LONGEST || case.rx > ROOM || case.record > WORDS {
             continue;
         }
         let answer = ran.answer();
