@@ -12,7 +12,7 @@ pub struct Row {
     pub name: &'static str,
     pub calls: usize,
     pub list: Vec<u8>,
-    /// The list for the Rust, which has no combined transactions: the plain calls that they are done as.
+    /// The list for the Rust, which has no blocking transactions: the plain calls that they are done as.
     pub plain: Vec<u8>,
     pub readings: Vec<u32>,
     pub rx: usize,
@@ -68,7 +68,7 @@ fn row(name: &'static str, kinds: &[PlannedCall], calls: usize) -> Row {
     }
 }
 
-/// The plan with the plain call in place of each combined transaction; none of them is idle.
+/// The plan with the plain call in place of each blocking transaction; none of them is idle.
 fn plain(mut plan: Plan) -> Plan {
     for call in plan.calls.iter_mut().filter(|call| call.kind == 7) {
         *call = call.plain().expect("not idle");
@@ -175,7 +175,7 @@ fn many_operations() -> [Named; 2] {
     ]
 }
 
-/// Combined transactions, each looked at to its end, and the last has a write after a read: refused for the last cause
+/// Blocking transactions, each looked at to its end, and the last has a write after a read: refused for the last cause
 /// of all. The longest list has 32 KiB.
 fn writes_after_reads() -> Vec<Hostile> {
     let read = PlannedOperation::Read;

@@ -1,8 +1,8 @@
-//! Document 02's combined transaction (kind 7): empty operations dropped, neighbours of one direction joined.
+//! Document 02's blocking transaction (kind 7): empty operations dropped, neighbours of one direction joined.
 
 use crate::PlannedOperation::{self, Read, Write};
 
-/// What a combined transaction comes to. Its empty operations go first, so that what they parted is joined.
+/// What a blocking transaction comes to. Its empty operations go first, so that what they parted is joined.
 pub fn combined(operations: &[PlannedOperation]) -> Vec<PlannedOperation> {
     let full = operations.iter().filter(|operation| !operation.is_empty());
     joined(full)
@@ -42,7 +42,7 @@ mod tests {
         Write(bytes.to_vec())
     }
 
-    /// The kind and the operations that a combined transaction is done as.
+    /// The kind and the operations that a blocking transaction is done as.
     fn done_as(operations: &[PlannedOperation]) -> Option<(u8, Vec<PlannedOperation>)> {
         let call = PlannedCall {
             kind: 7,

@@ -65,7 +65,7 @@ impl PlannedCall {
         }
     }
 
-    /// The blocking write, read or write_read that an accepted combined transaction is done as; none where it is
+    /// The blocking write, read or write_read that an accepted blocking transaction is done as; none where it is
     /// idle.
     pub fn plain(&self) -> Option<PlannedCall> {
         let operations = combined(&self.operations);

@@ -273,7 +273,7 @@ mod tests {
         assert_eq!(refusal(&plan.bytes(), 9), 0);
     }
 
-    /// The causes of a list with one combined transaction.
+    /// The causes of a list with one blocking transaction.
     fn combined(operations: Vec<PlannedOperation>, rx: usize) -> Vec<u32> {
         let mut plan = example();
         plan.calls[0].kind = 7;
@@ -294,7 +294,7 @@ mod tests {
 
     /// Cause 27: a read is followed by a write after joining.
     #[test]
-    fn combined_transactions() {
+    fn blocking_transactions() {
         let read = PlannedOperation::Read;
         let write = |length| PlannedOperation::Write(vec![7; length]);
         let none: [u32; 0] = [];
@@ -310,10 +310,10 @@ mod tests {
         assert_eq!(combined(vec![read(1), write(1), read(1)], 2), [27]);
     }
 
-    /// 27 comes last, 26 counts the reads of a combined transaction, and 25 and the length of 21 are about listed
+    /// 27 comes last, 26 counts the reads of a blocking transaction, and 25 and the length of 21 are about listed
     /// operations.
     #[test]
-    fn combined_transactions_and_other_causes() {
+    fn blocking_transactions_and_other_causes() {
         let read = PlannedOperation::Read;
         let write = |length| PlannedOperation::Write(vec![7; length]);
         let none: [u32; 0] = [];
@@ -327,7 +327,7 @@ mod tests {
 
     /// A write after a read of another call, or of a polling transaction, is no cause.
     #[test]
-    fn neighbours_of_combined_transactions() {
+    fn neighbours_of_blocking_transactions() {
         let call = |kind, operation: PlannedOperation| PlannedCall {
             kind,
             width: 7,

@@ -1,4 +1,4 @@
-//! What the combined transactions (kind 7) of a comparison were like.
+//! What the blocking transactions (kind 7) of a comparison were like.
 
 use std::fmt;
 
@@ -10,7 +10,7 @@ use crate::{Case, Ran};
 
 type Shape = fn(&[PlannedOperation]) -> bool;
 
-/// Shapes of combined transactions.
+/// Shapes of blocking transactions.
 const SHAPES: [(&str, Shape); 10] = [
     ("no operation", |all| all.is_empty()),
     ("empty operations alone", |all| {
@@ -79,12 +79,12 @@ const BEFORE: std::ops::RangeInclusive<u32> = 21..=26;
 pub struct Combined {
     /// Lists of all cases.
     made: u64,
-    /// Those that are accepted and have a combined transaction.
+    /// Those that are accepted and have a blocking transaction.
     lists: u64,
     /// Calls that ended well, by shape.
     shapes: [u64; SHAPES.len()],
     long: [u64; LONG.len()],
-    /// Runs that end well, after a start that failed, in lists where combined transactions alone can retry it.
+    /// Runs that end well, after a start that failed, in lists where blocking transactions alone can retry it.
     retried: u64,
     /// Lists that would be refused for 27, by the cause before it that they are refused for.
     beside: [u64; 6],

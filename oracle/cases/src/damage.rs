@@ -150,7 +150,7 @@ pub fn forbid(rng: &mut Rng, plan: &mut Plan) {
     }
 }
 
-/// Gives a plan a combined transaction with a write after a read, cause 27, in any place among its calls.
+/// Gives a plan a blocking transaction with a write after a read, cause 27, in any place among its calls.
 pub fn write_after_read(rng: &mut Rng, plan: &mut Plan) {
     let read = PlannedOperation::Read(rng.range(1, 4));
     let length = rng.range(1, 4);

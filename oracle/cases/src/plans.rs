@@ -125,7 +125,7 @@ fn transaction(rng: &mut Rng) -> Vec<PlannedOperation> {
     operations
 }
 
-/// A combined transaction that is accepted: a write and a read after it, one of them or neither, scattered.
+/// A blocking transaction that is accepted: a write and a read after it, one of them or neither, scattered.
 fn combined(rng: &mut Rng) -> Vec<PlannedOperation> {
     let whole = match rng.below(10) {
         0 => vec![],
@@ -185,7 +185,7 @@ fn length(rng: &mut Rng, least: usize) -> usize {
     }
 }
 
-/// Brings a plan to a limit: the longest operation, the most operations, the longest list, or a combined
+/// Brings a plan to a limit: the longest operation, the most operations, the longest list, or a blocking
 /// transaction longer than an operation can be.
 fn lengthen(rng: &mut Rng, plan: &mut Plan) {
     // Few enough that the bytes written below fit the list.
@@ -237,7 +237,7 @@ fn longest_writes(rng: &mut Rng) -> Vec<PlannedOperation> {
         .collect()
 }
 
-/// A combined transaction of so many operations: parts of a write, then parts of a read, empty ones among both.
+/// A blocking transaction of so many operations: parts of a write, then parts of a read, empty ones among both.
 fn most_operations(rng: &mut Rng, count: usize) -> Vec<PlannedOperation> {
     let written = rng.below(count + 1);
     let part = |at| match rng.below(3) {

@@ -45,7 +45,7 @@ fn plans() -> impl Iterator<Item = Plan> {
     })
 }
 
-/// Calls of each kind, but for combined transactions that are accepted.
+/// Calls of each kind, but for blocking transactions that are accepted.
 fn calls() -> Vec<(u8, Vec<PlannedOperation>)> {
     let read = PlannedOperation::Read;
     vec![
@@ -75,7 +75,7 @@ fn calls() -> Vec<(u8, Vec<PlannedOperation>)> {
     ]
 }
 
-/// Combined transactions: nothing, joined writes, joined reads for each arm of the Rust's `read`, and both; each as it
+/// Blocking transactions: nothing, joined writes, joined reads for each arm of the Rust's `read`, and both; each as it
 /// is, and with an empty operation of each direction in each place.
 fn combined() -> impl Iterator<Item = Vec<PlannedOperation>> {
     let read = PlannedOperation::Read;

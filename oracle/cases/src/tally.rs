@@ -22,7 +22,7 @@ pub struct Tally {
     endings: [[u64; ENDINGS]; KINDS],
     /// Runs that ended in the bring-up.
     bring_up: [u64; ENDINGS],
-    /// Lists with combined transactions.
+    /// Lists with blocking transactions.
     combined: Combined,
 }
 

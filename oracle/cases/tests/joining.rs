@@ -52,7 +52,7 @@ fn cut(all: &[PlannedOperation], written: usize, received: usize) -> Vec<Planned
     whole
 }
 
-/// The accepted cases of a seed that have combined transactions.
+/// The accepted cases of a seed that have blocking transactions.
 fn cases() -> impl Iterator<Item = Case> {
     let combined = |case: &Case| {
         refusal(&case.list, case.rx) == 0
@@ -65,7 +65,7 @@ fn cases() -> impl Iterator<Item = Case> {
         .filter(combined)
 }
 
-/// What the case comes to with this joining: each combined transaction is the plain call that it makes of it. None
+/// What the case comes to with this joining: each blocking transaction is the plain call that it makes of it. None
 /// where a list has no room for that call.
 fn run(case: &Case, joining: Joining) -> Option<Ran> {
     let mut plan = Plan::of(&List::accepted(&case.list));

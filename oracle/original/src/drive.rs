@@ -297,9 +297,9 @@ mod tests {
         assert_eq!(answer(&blocking, &[0, 0, 0, 0xC00, 0]), (2, 5));
     }
 
-    /// A combined transaction, access for access as document 01 has write_read: two bytes written, two received.
+    /// A blocking transaction, access for access as document 01 has write_read: two bytes written, two received.
     #[test]
-    fn a_combined_transaction() {
+    fn a_blocking_transaction() {
         // Start: SR1 0, START, timed SB. Then the address, timed ADDR.
         let start = |address| {
             [
@@ -340,7 +340,7 @@ mod tests {
 
     /// With nothing left after the empty ones: the bring-up alone, and the call has ended well.
     #[test]
-    fn an_idle_combined_transaction() {
+    fn an_idle_blocking_transaction() {
         let empty = vec![PlannedOperation::Write(vec![]), PlannedOperation::Read(0)];
         for operations in [vec![], empty] {
             let bytes = list_of(Settings::example(), 7, operations);

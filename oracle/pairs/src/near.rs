@@ -132,7 +132,7 @@ fn any_read<'a>(rng: &mut Rng, call: &'a mut PlannedCall) -> Option<&'a mut usiz
     (!reads.is_empty()).then(|| reads.swap_remove(rng.below(reads.len())))
 }
 
-/// The call with these operations in place of its own. A blocking one is a combined transaction of them, or the plain
+/// The call with these operations in place of its own. A blocking one is a blocking transaction of them, or the plain
 /// call that it comes to.
 fn with(
     rng: &mut Rng,

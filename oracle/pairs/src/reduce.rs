@@ -60,9 +60,9 @@ mod tests {
         Write(bytes.to_vec())
     }
 
-    /// Document 02: the reduced form of a combined transaction is its joined form.
+    /// Document 02: the reduced form of a blocking transaction is its joined form.
     #[test]
-    fn combined_transactions_reduce_to_plain_calls() {
+    fn blocking_transactions_reduce_to_plain_calls() {
         let combined = call(7, &[write(&[1]), Read(0), write(&[2]), Read(1), Read(2)]);
         let plain = call(6, &[write(&[1, 2]), Read(3)]);
         assert_eq!(reduce(&combined), reduce(&plain));
@@ -75,7 +75,7 @@ mod tests {
         assert_ne!(reduce(&combined), reduce(&call(0, &[write(&[1, 2])])));
     }
 
-    /// Document 02: with nothing left a combined transaction is idle. A polling one has to list nothing.
+    /// Document 02: with nothing left a blocking transaction is idle. A polling one has to list nothing.
     #[test]
     fn idle_calls() {
         for operations in [vec![], vec![write(&[])], vec![Read(0), write(&[])]] {

@@ -26,15 +26,15 @@ pub const WAYS: [(&str, Way); 8] = [
         call.kind == 6 && matches!(again.kind, 4 | 5)
     }),
     (
-        "a plain blocking call as a combined transaction",
+        "a plain blocking call as a blocking transaction",
         |call, again| (4..=6).contains(&call.kind) && again.kind == 7,
     ),
     (
-        "a combined transaction as a plain blocking call",
+        "a blocking transaction as a plain blocking call",
         |call, again| call.kind == 7 && (4..=6).contains(&again.kind),
     ),
     (
-        "a combined transaction with other operations",
+        "a blocking transaction with other operations",
         |call, again| call.kind == 7 && again.kind == 7 && call.operations != again.operations,
     ),
 ];
@@ -105,7 +105,7 @@ fn push(rng: &mut Rng, operations: &mut Vec<PlannedOperation>, operation: &Plann
     }
 }
 
-/// A combined transaction with its operations split anew, the plain call that it comes to, or a write_read with an
+/// A blocking transaction with its operations split anew, the plain call that it comes to, or a write_read with an
 /// empty half.
 fn blocking(rng: &mut Rng, call: &PlannedCall) -> PlannedCall {
     use PlannedOperation::{Read, Write};
