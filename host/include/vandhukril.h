@@ -34,7 +34,7 @@ enum vandhukril_answer {
     VANDHUKRIL_NO_ACKNOWLEDGE_ADDRESS = 2,   /* AF: the address; in a polling write also before a byte is sent */
     VANDHUKRIL_NO_ACKNOWLEDGE_DATA = 3,      /* AF: a data byte */
     VANDHUKRIL_NO_ACKNOWLEDGE_UNKNOWN = 4,   /* AF before an address was sent */
-    VANDHUKRIL_TIMEOUT = 5,                  /* TIMEOUT was set in a polling call, or a blocking wait took too long */
+    VANDHUKRIL_TIMEOUT = 5,                  /* TIMEOUT in a polling call, or a blocking wait reached its limit */
     VANDHUKRIL_BUS = 6,                      /* BERR was set in a blocking call */
     VANDHUKRIL_CRC = 7,                      /* PECERR was set in a polling call */
     VANDHUKRIL_ARBITRATION_LOSS = 8,         /* ARLO was set */

@@ -5,15 +5,14 @@ use mathlib.Core.Path.{_≡_, refl, ap, sym, _∙_}
 use mathlib.Core.Logic.{_⊎_, inl, inr, ⊎-elim}
 use mathlib.Core.List.{List, [], _∷_, _++_, map, append-nil}
 use mathlib.Core.Bool.{Bool, true, false, not, cond, and-eq-true-iff, false≢true, _&&_, _||_}
-use native.Mathlib.Nat.{zero-add, add-zero, suc-add, add-assoc, sub-zero}
+use native.Mathlib.Nat.{zero-add, add-zero, suc-add, sub-zero}
 use native.Mathlib.Omega.{arith}
-use borrow.Author.Tests.{eqb-true, eqb-false, eq-eqb, ne-eqb}
+use borrow.Author.Tests.{eqb-true, eqb-false}
 use lib.ListN.{length, length-take, length-drop, take, drop}
 use lib.Seq.{drop-drop, take-nil}
 use lib.Dec.{eqb}
 use Rattle.buslist.specs.declared.CallEntry.{CallEntry}
 use Rattle.buslist.specs.declared.OperationEntry.{OperationEntry}
-use Rattle.buslist.specs.declared.Joined.{Joined}
 use Rattle.buslist.specs.Table.{operation-count, data-bytes, data-offset, operation-at, entries, operations-of}
 use Rattle.buslist.specs.Form.{write-direction, written, operation-right, operations-right}
 use Rattle.buslist.specs.Refusal.{longest-operation, refusal}
@@ -130,10 +129,10 @@ module _ (l : List ℕ) (rx : ℕ) (ok : refusal l rx ≡ 0) where
     pub right : operations-right (data-bytes l) sum (entries (operation-at l) next (operation-count l - next)) ≡ true
     pub follows : first .direction ≡ 0 → sum ≡ first .offset + n
 
-  -- an operation with bytes joined to others makes their sum longer by its length
-  adds : (sum : ℕ) (o : OperationEntry) (first : OperationEntry) (n : ℕ) → operation-right sum o ≡ true → (o .direction ≡ first .direction) ⊎ (o .length ≡ 0)
+  -- an operation that joins makes the sum longer by its length
+  adds : (sum : ℕ) (o first : OperationEntry) (n : ℕ) → (o .direction ≡ first .direction) ⊎ (o .length ≡ 0)
       → (first .direction ≡ 0 → sum ≡ first .offset + n) → first .direction ≡ 0 → sum + written o ≡ first .offset + (n + o .length)
-  adds sum o first n r s f d =
+  adds sum o first n s f d =
       ⊎-elim
       (λ (e : o .direction ≡ first .direction). omega (arith, f d, write-length o (e ∙ d)))
       (λ (e : o .length ≡ 0). omega (arith, f d, written-le o))
@@ -207,7 +206,7 @@ module _ (l : List ℕ) (rx : ℕ) (ok : refusal l rx ≡ 0) where
             short = rw eo (omega (arith, g .some, g .short, operation-length l rx ok next (omega arith)));
             sum = g .sum + written o;
             right = rw eo (f .1);
-            follows = adds (g .sum) o first n r (⊎-elim inl (λ t. inr (rw eo (empty-length next (omega arith) (rw eo at t)))) how) (g .follows);
+            follows = adds (g .sum) o first n (⊎-elim inl (λ t. inr (rw eo (empty-length next (omega arith) (rw eo at t)))) how) (g .follows);
           }
         where
           joined-how : (eqb (o .direction) (first .direction) ≡ true) ⊎ (empty (operation-of l o) ≡ true) → (o .direction ≡ first .direction) ⊎ (empty (operation-of l o) ≡ true)

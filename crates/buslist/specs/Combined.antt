@@ -1,16 +1,13 @@
 -- Operations joined (document 01, "Reduced call"), and combined as in a call of kind 7 (document 02, C-11).
-use Prim.Native.Nat.{ℕ, zero, suc, _+_}
+use Prim.Native.Nat.{_+_}
 use mathlib.Core.List.{List, [], _∷_, _++_}
-use mathlib.Core.Bool.{Bool, true, false}
-use Rattle.buslist.specs.Meaning.{Operation, write, read}
+use mathlib.Core.Bool.{Bool, true, false, cond}
+use Rattle.buslist.specs.Meaning.{Operation, write, read, empty}
 
 -- empty operations dropped
 unfoldable pub dropped : List Operation → List Operation
 dropped [] = []
-dropped (write [] ∷ os) = dropped os
-dropped (write (b ∷ bs) ∷ os) = write (b ∷ bs) ∷ dropped os
-dropped (read zero ∷ os) = dropped os
-dropped (read (suc n) ∷ os) = read (suc n) ∷ dropped os
+dropped (o ∷ os) = cond (empty o) (dropped os) (o ∷ dropped os)
 
 -- neighbours of one direction joined: `gather o os` is o joined with what follows it, and the rest
 -- a joined write has the bytes of its parts in order, a joined read the sum of their lengths

@@ -1,4 +1,4 @@
--- What an accepted list means: its settings (`settings-of`) and its calls.
+-- What a list means: its settings (`settings-of`) and its calls.
 use Prim.Native.Nat.{ℕ, zero, suc, _+_}
 use mathlib.Core.List.{List, [], _∷_, map}
 use mathlib.Core.Bool.{Bool, true, false, cond}

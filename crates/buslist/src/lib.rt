@@ -206,8 +206,8 @@ fn joins(list: &[u8], first: OperationEntry, o: OperationEntry) -> bool
     (o.direction == first.direction) | is_empty(list, o)
 }
 
-// The operations from j on joined, up to the first that is not, or to the end. The bytes of joined writes follow each
-// other in the list, so nothing is copied.
+// The operations from j on, joined up to the first that does not join, or to the end. The bytes of joined writes follow
+// each other in the list, so nothing is copied.
 pub fn joined_at(list: &[u8], start: u32, j: u32, end: u32) -> Joined
     requires { ⌜ (start ≡ operation-offset (now list)) × (j < end) × (end ≤ operation-count (now list)) × ((rx : ℕ) × (refusal (now list) rx ≡ 0)) ⌝ }
     ensures { λ r. ⌜ JoinsAt (now (list .entry)) j end r ⌝ }

@@ -1,28 +1,27 @@
 -- What document 02 promises of kind 7, and that the other kinds are what they were.
 -- Assumes nothing.
-use Prim.Native.Nat.{ℕ, zero, suc, _<_}
+use Prim.Native.Nat.{ℕ, zero, suc}
 use native.Mathlib.Omega.{arith}
-use mathlib.Core.Bool.{Bool, true, false, false≢true, or-false, or-true, _&&_, _||_}
+use mathlib.Core.Bool.{Bool, true, false, false≢true, or-false, _&&_, _||_}
 use mathlib.Core.Path.{_≡_, refl, sym, ap}
-use mathlib.Core.Logic.{_⊎_, inl, inr}
-use mathlib.Core.List.{List, [], _∷_, map}
+use mathlib.Core.Logic.{inl, inr}
+use mathlib.Core.List.{List, [], _∷_}
 use borrow.Author.Tests.{ne-eqb}
-use lib.Dec.{eqb}
 use Rattle.units.specs.declared.Setup.{Setup}
 use Rattle.buslist.specs.declared.CallEntry.{CallEntry}
 use Rattle.buslist.specs.Table.{calls}
 use Rattle.buslist.specs.Form.{kind-right}
-use Rattle.buslist.specs.Meaning.{Operation, write, read, Call, call-of}
+use Rattle.buslist.specs.Meaning.{Operation, call-of}
 use Rattle.buslist.specs.Combined.{dropped, gather, joined, combined, read-then-write}
 use Rattle.buslist.specs.Refusal.{any, write-after-read, causes, first-cause, refusal}
 use Rattle.i2c.specs.declared.Previous.{Previous}
 use Rattle.blocking.specs.Blocking.{close-after, blocking-steps}
 use Rattle.engine.specs.Calls.{engine-of, early, operations-steps, performed, steps-of}
 use Rattle.engine.proofs.CallLaws.{performed-listed}
-use Rattle.demands.specs.Compare.{is-empty, reduced-operations, Accepted}
-use Rattle.demands.specs.ByKind.{LeftFor, for-write, for-read, for-write-read, combined-as, DoneAs, listed-reduced, is-seven, ByKind}
+use Rattle.demands.specs.Compare.{is-empty, reduced-operations, idle}
+use Rattle.demands.specs.ByKind.{LeftFor, for-write, for-read, for-write-read, DoneAs, listed-reduced, is-seven, ByKind}
 use Rattle.demands.proofs.Shape.{Fails, Shaped, polling-write, polling-read, polling-write-read, transaction, blocking-write, blocking-read, blocking-write-read, blocking-transaction}
-use Rattle.demands.proofs.Apart.{Tail, alone, read-after, Halves, write-first, read-alone}
+use Rattle.demands.proofs.Apart.{alone, read-after, Halves, write-first, read-alone}
 use Rattle.demands.proofs.Reduced.{halves}
 use Rattle.demands.proofs.Listed.{of-kind-at}
 
@@ -96,13 +95,14 @@ none-seven l (c ∷ cs) e = by (is-seven c) (none-seven l cs) e
     by false rest e = rest e
 
 pub by-kind : ByKind
-unfolding kind-right refusal causes first-cause steps-of
+unfolding kind-right refusal causes first-cause steps-of idle
 by-kind =
     record {
       seven-any = λ os. refl;
       seven-done = λ l rx ok k h e s. seven-shaped s _ (of-kind-at l rx ok k h) e;
       other-right = λ kind os h. rw (ne-eqb kind 7 h, or-false);
       other-done = λ s c h. rw (performed-listed (c .kind) (c .operations) h);
+      other-idle = λ c h. rw (ne-eqb (c .kind) 7 h, or-false);
       other-reduced = λ l rx ok k h e. other-shaped (of-kind-at l rx ok k h) e;
       other-refused = λ l rx e. rw (none-seven l (calls l) e);
     }

@@ -16,7 +16,7 @@ use Rattle.buslist.specs.Combined.{dropped, joined, combined}
 use Rattle.buslist.specs.Refusal.{any, causes, first-cause, refusal}
 use Rattle.i2c.specs.declared.Previous.{Previous}
 use Rattle.engine.specs.Calls.{Engine, polling, blocking, engine-of, early, operations-steps, steps-of}
-use Rattle.demands.specs.Compare.{reduced-operations, Accepted}
+use Rattle.demands.specs.Compare.{reduced-operations, is-empty, idle, Accepted}
 
 -- what is left of a kind 7 call, and the kind that does it: blocking write, read or write_read
 pub data LeftFor : ℕ → List Operation → Type 0 where
@@ -47,6 +47,10 @@ abbrev pub listed-reduced : Engine → List Operation → List Operation
 listed-reduced polling os = joined os
 listed-reduced blocking os = dropped os
 
+-- document 01's idle calls
+abbrev pub listed-idle : Call → Bool
+listed-idle c = eqb (c .kind) 3 && is-empty (c .operations) || eqb (c .kind) 6 && is-empty (dropped (c .operations))
+
 abbrev pub is-seven : CallEntry → Bool
 is-seven c = eqb (c .kind) 7
 
@@ -55,11 +59,12 @@ pub record ByKind : Type 0 where
   pub seven-any : (os : List OperationEntry) → kind-right 7 os ≡ true
   -- what remains in a call of an accepted list is done as blocking write, read or write_read; with nothing left, nothing is done
   pub seven-done : (l : List ℕ) (rx : ℕ) → Accepted l rx → (k : ℕ) → k < call-count l → call-at l k .kind ≡ 7 → (s : Setup) → DoneAs s (call-of l (call-at l k))
-  -- a call of any other kind has the operations of its kind, does them as listed, and is reduced as document 01 says
+  -- a call of any other kind has the operations that document 01 names, does them as listed, and is idle and reduced as document 01 says
   pub other-right : (kind : ℕ) (os : List OperationEntry) → (kind ≡ 7 → ⊥) → kind-right kind os ≡ listed-right kind os
   pub other-done : (s : Setup) (c : Call) → (c .kind ≡ 7 → ⊥)
       → steps-of s c ≡ operations-steps s (engine-of (c .kind)) (early (c .kind)) (c .address) Previous.Nothing (c .operations)
+  pub other-idle : (c : Call) → (c .kind ≡ 7 → ⊥) → idle c ≡ listed-idle c
   pub other-reduced : (l : List ℕ) (rx : ℕ) → Accepted l rx → (k : ℕ) → k < call-count l → (call-at l k .kind ≡ 7 → ⊥) → let c = call-of l (call-at l k) in
       reduced-operations (engine-of (c .kind)) (c .operations) ≡ listed-reduced (engine-of (c .kind)) (c .operations)
-  -- a list without a call of kind 7 is refused by causes 20 to 26 alone
+  -- a list without a call of kind 7 is refused by causes 20 to 26 alone; the form of its calls, in 20, is that of `other-right`
   pub other-refused : (l : List ℕ) (rx : ℕ) → any is-seven (calls l) ≡ false → refusal l rx ≡ first-cause (take 7 (causes l rx))

@@ -1,4 +1,4 @@
--- Two lists compared (document 01, "Reduced call" and "Two whole runs").
+-- Two lists compared (document 01, "Reduced call" and "Two whole runs"; document 02 for kind 7).
 use Prim.Native.Nat.{ℕ, zero, suc}
 use mathlib.Core.Path.{_≡_}
 use mathlib.Core.List.{List, [], _∷_, map}

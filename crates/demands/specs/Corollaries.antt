@@ -36,7 +36,7 @@ bytes-got r = take (r .counts .got) (r .rx′)
 
 -- demand 1 of a run
 pub record Results1 {list : List ℕ} (r : RunOf list) : Type 0 where
-  -- the answer is one of document 01's numbers: at most 10 where the list is accepted
+  -- the answer is one of the known numbers: at most 10 where the list is accepted
   pub answer : known (r .counts .answer) ≡ true
   pub accepted : Accepted list (length (r .rx)) → r .counts .answer ≤ 10
   -- a refused list gets its cause, and zero counts; both buffers are what they were

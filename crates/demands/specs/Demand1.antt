@@ -67,7 +67,7 @@ module _ (list readings : List ℕ) (rx words : ℕ) where
 
   -- what holds of it
   pub record Demand1 : Type 0 where
-    -- the answer is one of document 01's numbers: at most 10 where the list is accepted, and from 20 on where it is refused
+    -- the answer is one of the known numbers: at most 10 where the list is accepted, and from 20 on where it is refused
     pub answer : known (ran .answer) ≡ true
     pub accepted : refusal list rx ≡ 0 → ran .answer ≤ 10
     -- a refused list gets its cause, begins no call, makes no access, has zero counts and changes no buffer

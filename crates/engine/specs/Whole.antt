@@ -44,7 +44,7 @@ unfoldable pub moved : Engine → Previous → Operation → Previous
 moved polling previous o = direction o
 moved blocking previous o = done-last previous o
 
--- of the call that an entry has, these operations are left, after an operation of direction `previous` or none
+-- what is left to do of the call that an entry has: these operations, after one of direction `previous` or none
 abbrev pub rest-steps : Setup → CallEntry → Previous → List Operation → List Step
 rest-steps s c previous os = operations-steps s (engine-of (c .kind)) (early (c .kind)) (c .address) previous (performed (c .kind) os)
 

@@ -1,7 +1,7 @@
 // Runs hand-made bus lists through `buslist::refusal`, and prints for each the cause that was written down from
-// document 01 beside the cause that came back. The cases are text on standard input:
+// the papers beside the cause that came back. The cases are text on standard input:
 //
-//   = NAME CAUSE LENGTH   starts a case: its name, the cause from the document, the received buffer's length
+//   = NAME CAUSE LENGTH   starts a case: its name, the cause from the papers, the received buffer's length
 //   b, h, w, x, z         the list's bytes, as the crate `cases` reads them
 //   !                     runs the case on the bytes so far
 //

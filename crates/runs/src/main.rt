@@ -1,4 +1,4 @@
-// Runs hand-made bus lists on hand-made readings, and prints every access that was written down from document 01
+// Runs hand-made bus lists on hand-made readings, and prints every access that was written down from the papers
 // beside the access that the run made, then the received bytes and the end the same way, and whether all agrees: the
 // accesses, the received bytes, the answer and the four counts, and that what lies past them in both buffers is as it
 // was. The cases are text on standard input:

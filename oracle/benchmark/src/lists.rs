@@ -28,9 +28,9 @@ pub fn rows() -> Vec<Row> {
         ("blocking write", vec![call(4)]),
         ("blocking read", vec![call(5)]),
         ("mixed", [2, 4, 3, 5, 0, 6, 1].map(call).to_vec()),
-        ("combined write", vec![with(7, vec![write; 4])]),
-        ("combined read", vec![with(7, vec![read; 4])]),
-        ("combined both", vec![with(7, both)]),
+        ("joined write", vec![with(7, vec![write; 4])]),
+        ("joined read", vec![with(7, vec![read; 4])]),
+        ("joined both", vec![with(7, both)]),
     ];
     let mut rows = Vec::new();
     for (name, kinds) in kinds {

@@ -76,7 +76,8 @@ fn refuse(hostile: &Hostile) {
     let mut rx = vec![0; hostile.rx];
     let answer = engine::run(list, &[], &mut rx, &mut [])[0];
     let expected = u64::from(refusal(list, hostile.rx));
-    assert_eq!(answer, expected, "{name}: refused");
+    assert!(answer >= 20, "{name}: refused");
+    assert_eq!(answer, expected, "{name}: for this cause");
     let [nanoseconds] = medians([Sample::new(|| engine::run(list, &[], &mut rx, &mut [])[0])]);
     println!(
         "{name:26} {:7}  {answer:6}  {nanoseconds:10.1}  {:7.3}",

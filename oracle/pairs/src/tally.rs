@@ -68,7 +68,7 @@ pub struct Nears {
 const KINDS: [(&str, RangeInclusive<u8>); 3] = [
     ("polling", 0..=3),
     ("plain blocking", 4..=6),
-    ("combined", 7..=7),
+    ("transaction", 7..=7),
 ];
 
 impl Nears {

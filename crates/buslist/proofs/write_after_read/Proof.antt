@@ -1,6 +1,5 @@
 use borrow.Author.Needs.{needs}
 use borrow.Author.Tests.{eq-eqb, ne-eqb}
-use mathlib.Core.Path.{_≡_, sym, _∙_}
 use Rattle.buslist.proofs.write_after_read.Statement.{statement}
 use Rattle.buslist.proofs.write_after_read.Tie as tie
 
