@@ -26,7 +26,7 @@ joined (o ∷ os) = gather o os
 abbrev pub combined : List Operation → List Operation
 combined os = joined (dropped os)
 
--- a read is followed by a write
+-- a read is followed by a write, which cannot be done without losing the bus between them
 unfoldable pub read-then-write : List Operation → Bool
 read-then-write [] = false
 read-then-write (write bs ∷ os) = read-then-write os

@@ -51,6 +51,7 @@ listed-reduced blocking os = dropped os
 abbrev pub listed-idle : Call → Bool
 listed-idle c = eqb (c .kind) 3 && is-empty (c .operations) || eqb (c .kind) 6 && is-empty (dropped (c .operations))
 
+-- a call of kind 7
 abbrev pub is-seven : CallEntry → Bool
 is-seven c = eqb (c .kind) 7
 
