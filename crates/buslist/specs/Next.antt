@@ -1,4 +1,4 @@
--- The form of the contract of `joined_at`: the operations of a combined call, from one of them on.
+-- The forms of the contract of `joined_at`: what it asks, and the operations of a combined call, from one of them on.
 use Prim.Native.Nat.{ℕ, _-_, _≤_, _<_}
 use mathlib.Core.Path.{_≡_}
 use mathlib.Core.Bool.{Bool, _||_}
@@ -6,9 +6,14 @@ use mathlib.Core.List.{List, [], _∷_, _++_, map}
 use lib.Dec.{eqb}
 use Rattle.buslist.specs.declared.OperationEntry.{OperationEntry}
 use Rattle.buslist.specs.declared.Joined.{Joined}
-use Rattle.buslist.specs.Table.{operation-at, entries}
+use Rattle.buslist.specs.Table.{operation-count, operation-offset, operation-at, entries}
 use Rattle.buslist.specs.Meaning.{Operation, empty, operation-of}
 use Rattle.buslist.specs.Combined.{dropped, combined}
+use Rattle.buslist.specs.Refusal.{refusal}
+
+-- operation j comes before this end, in the table of an accepted list that begins at `start`
+abbrev pub OfAccepted : List ℕ → (start j end : ℕ) → Type 0
+OfAccepted l start j end = (start ≡ operation-offset l) × (j < end) × (end ≤ operation-count l) × ((rx : ℕ) × (refusal l rx ≡ 0))
 
 -- the operations from number j on, up to the end
 abbrev pub operations-from : List ℕ → ℕ → ℕ → List Operation

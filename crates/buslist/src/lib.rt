@@ -3,7 +3,7 @@ use units::Hertz;
 use units::Micros;
 use units::Settings;
 ghost use mathlib.Core.Path.{_≡_};
-ghost use Prim.Native.Nat.{ℕ, min, _+_, _≤_, _<_, _^_};
+ghost use Prim.Native.Nat.{min, _+_, _≤_, _<_, _^_};
 ghost use lib.ListN.{length};
 ghost use Rattle.buslist.specs.Bytes.{byte, half, word};
 ghost use Rattle.buslist.specs.Table.{call-count, call-offset, operation-count, operation-offset, settings-of, call-at, operation-at, operations-of, calls, operations, data-bytes};
@@ -11,7 +11,7 @@ ghost use Rattle.buslist.specs.Form.{header-right, written, operation-ri
 ghost use Rattle.buslist.specs.Meaning.{empty, bytes-of, operation-of, call-of};
 ghost use Rattle.buslist.specs.Combined.{combined, read-then-write};
 ghost use Rattle.buslist.specs.Refusal.{any, too-long, over-limit, too-many-cycles, timeout-out, address-out, empty-blocking, received, all-received, write-after-read, refusal};
-ghost use Rattle.buslist.specs.Next.{joins, JoinsAt};
+ghost use Rattle.buslist.specs.Next.{OfAccepted, joins, JoinsAt};
 
 // A call as its 8 bytes have it.
 pub struct CallEntry {
@@ -209,7 +209,7 @@ fn joins(list: &[u8], first: OperationEntry, o: OperationEntry) -> bool
 // The operations from j on, joined up to the first that does not join, or to the end. The bytes of joined writes follow
 // each other in the list, so nothing is copied.
 pub fn joined_at(list: &[u8], start: u32, j: u32, end: u32) -> Joined
-    requires { ⌜ (start ≡ operation-offset (now list)) × (j < end) × (end ≤ operation-count (now list)) × ((rx : ℕ) × (refusal (now list) rx ≡ 0)) ⌝ }
+    requires { ⌜ OfAccepted (now list) start j end ⌝ }
     ensures { λ r. ⌜ JoinsAt (now (list .entry)) j end r ⌝ }
 {
     let first = operation_at(list, start, j);

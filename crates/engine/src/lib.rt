@@ -11,8 +11,8 @@ ghost use mathlib.Core.Path.{_≡_};
 ghost use mathlib.Core.List.{List};
 ghost use Prim.Native.Nat.{ℕ, _<_, _≤_};
 ghost use lib.ListN.{length};
-ghost use Rattle.buslist.specs.Table.{operation-count, operation-offset};
 ghost use Rattle.buslist.specs.Refusal.{refusal};
+ghost use Rattle.buslist.specs.Next.{OfAccepted};
 ghost use Rattle.buslist.specs.Meaning.{operation-of};
 ghost use Rattle.registers.specs.Contract.{DoesWith, Receives};
 ghost use Rattle.i2c.specs.Polling.{direction};
@@ -226,7 +226,7 @@ fn end_call(
 
 // The operation that a call does at j, and the number of the one after it. A call of kind 7 does operations joined.
 fn operation_from(list: &[u8], start: u32, call: CallEntry, j: u32, end: u32) -> Joined
-    requires { ⌜ (start ≡ operation-offset (now list)) × (j < end) × (end ≤ operation-count (now list)) × ((rx : ℕ) × (refusal (now list) rx ≡ 0)) ⌝ }
+    requires { ⌜ OfAccepted (now list) start j end ⌝ }
     ensures { λ r. ⌜ Takes (now (list .entry)) call j end r ⌝ }
 {
     if call.kind == 7 {
