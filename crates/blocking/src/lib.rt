@@ -90,10 +90,9 @@ fn send_addr_and_wait(
     log: &mut [u32],
     progress: Progress,
     setup: Setup,
-    addr: u32,
+    addr: u16,
     read: bool,
 ) -> Outcome
-    requires { ⌜ addr < 128 ⌝ }
     ensures { λ r. ⌜ DoesWith setup (send-addr-and-wait setup addr read) readings log progress r ⌝ }
 {
     let limit = setup.addr_limit;
@@ -227,10 +226,9 @@ pub fn write_without_stop(
     log: &mut [u32],
     progress: Progress,
     setup: Setup,
-    addr: u32,
+    addr: u16,
     bytes: &[u8],
 ) -> Outcome
-    requires { ⌜ addr < 128 ⌝ }
     ensures { λ r. ⌜ DoesWith setup (write-without-stop setup addr (now (bytes .entry))) readings log progress r ⌝ }
 {
     if bytes.len() == 0 {
@@ -596,10 +594,10 @@ pub fn read(
     rx: &mut [u8],
     progress: Progress,
     setup: Setup,
-    addr: u32,
+    addr: u16,
     count: usize,
 ) -> Outcome
-    requires { ⌜ (addr < 128) × (progress .got ≤ progress .used) ⌝ }
+    requires { ⌜ progress .got ≤ progress .used ⌝ }
     ensures { λ r. ⌜ Receives setup (read-steps setup addr count) readings log rx progress r ⌝ }
 {
     if count == 0 {

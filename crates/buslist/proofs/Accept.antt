@@ -9,17 +9,18 @@ use native.Mathlib.Nat.{add-zero, zero-add}
 use native.Mathlib.Omega.{arith}
 use borrow.Author.Tests.{ltb-false, leb-true, leb-false, eqb-true, eqb-false, not-false, eq-eqb, ne-eqb, le-leb, lt-leb}
 use lib.ListN.{length, take, drop}
-use lib.Dec.{eqb, leb, lit<}
+use lib.Dec.{eqb, leb, ltb, lit<}
 use Rattle.units.specs.declared.Settings.{Settings}
 use Rattle.units.specs.Time.{to-cycles}
 use Rattle.units.specs.Speed.{frequency-out}
+use Rattle.buslist.specs.declared.Address.{Address}
 use Rattle.buslist.specs.declared.CallEntry.{CallEntry}
 use Rattle.buslist.specs.declared.OperationEntry.{OperationEntry}
 use Rattle.buslist.specs.Bytes.{word}
 use Rattle.buslist.specs.Table.{call-count, call-offset, operation-count, operation-offset, data-bytes, data-offset, settings-of, call-at, operation-at, entries, calls, operations, operations-of}
 use Rattle.buslist.specs.Form.{header-right, written, operation-right, operations-right, kind-right, call-right, calls-right, of-the-form}
 use Rattle.buslist.specs.Refusal.{any, longest-operation, over-limit, timeout-out, address-out, empty-blocking, all-received, write-after-read, causes, first-cause, refusal}
-use Rattle.buslist.specs.Meaning.{write, read, operation-of}
+use Rattle.buslist.specs.Meaning.{write, read, engine-of, is-polling, is-ten, operation-of, address-of}
 
 -- tests as facts: for `simp tests at e`
 eqb-iff : (a b : ℕ) → (eqb a b ≡ true) ↔ (a ≡ b)
@@ -228,6 +229,11 @@ pub record Ranges (s : Settings) : Type 0 where
   pub address-cycles : to-cycles (s .«addr_timeout») (s .sysclk) .0 ≤ 4294967295
   pub data-cycles : to-cycles (s .«data_timeout») (s .sysclk) .0 ≤ 4294967295
 
+-- an address that is in range in a blocking call is no ten-bit one
+not-ten : (ten : Bool) {a : ℕ} → cond ten (ltb 1023 a || true) (ltb 127 a) ≡ false → cond ten (Address.Ten a) (Address.Seven a) ≡ Address.Seven a
+not-ten true e = absurd (false≢true (sym ((simp or-not-iff at e) .1)))
+not-ten false e = refl
+
 module _ (l : List ℕ) (rx : ℕ) (ok : refusal l rx ≡ 0) where
   -- the parts of the form
   parts : ((header-right l ≡ true) × (operations-right (data-bytes l) 0 (operations l) ≡ true)) × (calls-right l 0 (calls l) ≡ true)
@@ -309,19 +315,14 @@ module _ (l : List ℕ) (rx : ℕ) (ok : refusal l rx ≡ 0) where
     call-stands : RightCall l (call-placed .sum) (call-at l k)
     call-stands = right-call l _ _ (call-placed .stands)
 
-    -- its address is no ten-bit one, and not above 127
+    -- its address fits its width, and is no ten-bit one in a blocking call
     address-in : address-out (call-at l k) ≡ false
     address-in = entry-fails address-out (call-at l) (call-count l) k (accepted l rx ok .addresses) h
 
-    -- its address has seven bits
-    pub call-address : call-at l k .address < 128
-    call-address = let f = simp tests at address-in in omega arith
-
-    -- and so its width is 7
-    pub call-width : call-at l k .width ≡ 7
-    call-width =
-        let f = simp or-not-iff at address-in in
-        simp (f .0, or-false, tests) at (call-stands .width)
+    -- so a blocking call has a seven-bit address
+    pub blocking-seven : is-polling (engine-of (call-at l k .kind)) ≡ false → address-of (call-at l k) ≡ Address.Seven (call-at l k .address)
+    unfolding address-of
+    blocking-seven h = not-ten (is-ten (call-at l k)) (rw h at address-in)
 
     -- its operations lie in their table
     pub call-within : call-at l k .first + call-at l k .count ≤ operation-count l

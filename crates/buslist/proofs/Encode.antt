@@ -13,11 +13,12 @@ use Rattle.units.specs.declared.Mode.{Mode}
 use Rattle.units.specs.declared.Mode.the-variants.{Standard, Fast}
 use Rattle.units.specs.declared.DutyCycle.the-variants.{Ratio2to1, Ratio16to9}
 use Rattle.units.specs.Speed.{mode-of}
+use Rattle.buslist.specs.declared.Address.{Address}
 use Rattle.buslist.specs.declared.CallEntry.{CallEntry}
 use Rattle.buslist.specs.declared.OperationEntry.{OperationEntry}
 use Rattle.buslist.specs.Bytes.{byte, half, word}
 use Rattle.buslist.specs.Table.{call-count, call-offset, operation-count, operation-offset, data-bytes, data-offset, settings-of, call-at, operation-at, entries, calls}
-use Rattle.buslist.specs.Meaning.{Operation, write, read, Call, operation-of, call-of, calls-of}
+use Rattle.buslist.specs.Meaning.{Operation, write, read, address-number, address-width, Call, operation-of, address-of, call-of, calls-of}
 use Rattle.buslist.specs.Encode.{half-bytes, word-bytes, mode-number, header, call-entries, call-bytes, call-table, data-of, operation-entry, operation-entries, operation-bytes, operation-table, data-part, all-operations, encode}
 
 -- a number past the first part of a list is read in the second part
@@ -134,6 +135,12 @@ mode-back Standard = refl
 mode-back (Fast Ratio2to1) = refl
 mode-back (Fast Ratio16to9) = refl
 
+-- an address is read back from its width and its number
+address-back : (a : Address) (kind first count : ℕ) → address-of (record { kind = kind; width = address-width a; address = address-number a; first = first; count = count }) ≡ a
+unfolding address-of
+address-back (Address.Seven a) kind first count = refl
+address-back (Address.Ten a) kind first count = refl
+
 -- the counts and offsets that the list has, and its length
 pub record EncodedHeader (s : Settings) (cs : List Call) : Type 0 where
   pub calls : call-count (encode s cs) ≡ length cs
@@ -231,7 +238,7 @@ module _ (s : Settings) (cs : List Call) where
   calls-back before [] e = refl
   calls-back before (c ∷ cs′) e =
       let os : List Operation = c .operations in
-      rw (encoded-operations before os (all-operations cs′) e, operations-back before os (all-operations cs′) e, ← (length-append before os), calls-back (before ++ os) cs′ (rw append-assoc e))
+      rw (address-back (c .address), encoded-operations before os (all-operations cs′) e, operations-back before os (all-operations cs′) e, ← (length-append before os), calls-back (before ++ os) cs′ (rw append-assoc e))
 
   -- the calls are read back
   pub encoded-calls : calls-of (encode s cs) ≡ cs

@@ -9,7 +9,7 @@ use Rattle.units.specs.declared.Mode.{Mode}
 use Rattle.units.specs.declared.Mode.the-variants.{Standard, Fast}
 use Rattle.buslist.specs.declared.CallEntry.{CallEntry}
 use Rattle.buslist.specs.declared.OperationEntry.{OperationEntry}
-use Rattle.buslist.specs.Meaning.{Operation, write, read, Call}
+use Rattle.buslist.specs.Meaning.{Operation, write, read, address-number, address-width, Call}
 
 -- 16 bits, little-endian
 unfoldable pub half-bytes : ℕ → List ℕ
@@ -32,11 +32,11 @@ header s c o d =
     ∷ s .pclk1 .0 ∷ s .sysclk .0 ∷ mode-number (s .mode) ∷ s .frequency .0
     ∷ s .«start_timeout» .0 ∷ s .«start_retries» ∷ s .«addr_timeout» .0 ∷ s .«data_timeout» .0 ∷ 0 ∷ 0 ∷ []
 
--- calls after calls of `sum` operations, as their table has them: width 7; first operation is the sum of earlier counts
+-- calls after calls of `sum` operations, as their table has them: first operation is the sum of earlier counts
 unfoldable pub call-entries : ℕ → List Call → List CallEntry
 call-entries sum [] = []
 call-entries sum (c ∷ cs) =
-    record { kind = c .kind; width = 7; address = c .address; first = sum; count = length (c .operations) }
+    record { kind = c .kind; width = address-width (c .address); address = address-number (c .address); first = sum; count = length (c .operations) }
     ∷ call-entries (sum + length (c .operations)) cs
 
 -- a call's 8 bytes: kind and address width (one byte each), address, first operation and operation count (16 bits each)

@@ -13,7 +13,7 @@ use Rattle.buslist.specs.declared.CallEntry.{CallEntry}
 use Rattle.buslist.specs.declared.OperationEntry.{OperationEntry}
 use Rattle.buslist.specs.Table.{call-count, operation-count, settings-of, calls, operations, operation-at}
 use Rattle.buslist.specs.Form.{read-direction, of-the-form}
-use Rattle.buslist.specs.Meaning.{call-of}
+use Rattle.buslist.specs.Meaning.{engine-of, is-polling, is-ten, call-of}
 use Rattle.buslist.specs.Combined.{combined, read-then-write}
 
 -- one of them passes the test
@@ -44,9 +44,9 @@ timeout-out s =
     || too-many-cycles (s .«addr_timeout») (s .sysclk)
     || too-many-cycles (s .«data_timeout») (s .sysclk)
 
--- 24: ten-bit address, or seven-bit above 127
+-- 24: a seven-bit address above 127; a ten-bit one above 1023, or a ten-bit blocking call
 abbrev pub address-out : CallEntry → Bool
-address-out c = eqb (c .width) 10 || ltb 127 (c .address)
+address-out c = cond (is-ten c) (ltb 1023 (c .address) || not (is-polling (engine-of (c .kind)))) (ltb 127 (c .address))
 
 -- 25: blocking write (kind 4) or blocking read (kind 5) of length 0; a list of the form has one operation there
 abbrev pub empty-blocking : List ℕ → CallEntry → Bool

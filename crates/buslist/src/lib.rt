@@ -8,10 +8,16 @@ ghost use lib.ListN.{length};
 ghost use Rattle.buslist.specs.Bytes.{byte, half, word};
 ghost use Rattle.buslist.specs.Table.{call-count, call-offset, operation-count, operation-offset, settings-of, call-at, operation-at, operations-of, calls, operations, data-bytes};
 ghost use Rattle.buslist.specs.Form.{header-right, written, operation-right, operations-right, kind-right, call-right, calls-right, of-the-form};
-ghost use Rattle.buslist.specs.Meaning.{empty, bytes-of, operation-of, call-of};
+ghost use Rattle.buslist.specs.Meaning.{empty, engine-of, is-polling, bytes-of, operation-of, address-of, call-of};
 ghost use Rattle.buslist.specs.Combined.{combined, read-then-write};
 ghost use Rattle.buslist.specs.Refusal.{any, too-long, over-limit, too-many-cycles, timeout-out, address-out, empty-blocking, received, all-received, write-after-read, refusal};
 ghost use Rattle.buslist.specs.Next.{OfAccepted, joins, JoinsAt};
+
+// An address with its width. A list has 16 bits for either.
+pub enum Address {
+    Seven(u16),
+    Ten(u16),
+}
 
 // A call as its 8 bytes have it.
 pub struct CallEntry {
@@ -187,6 +193,22 @@ pub fn bytes_of(list: &[u8], o: OperationEntry) -> &[u8]
     let start = least(at, list.len());
     let end = least(at + o.length as usize, list.len());
     &list[start..end]
+}
+
+// Whether a call is polling: kinds 0 to 3.
+pub fn is_polling(kind: u8) -> bool
+    ensures { λ r. ⌜ r ≡ is-polling (engine-of kind) ⌝ }
+{
+    kind <= 3
+}
+
+pub fn address_of(c: CallEntry) -> Address
+    ensures { λ r. ⌜ r ≡ address-of c ⌝ }
+{
+    if c.width == 10 {
+        return Address::Ten(c.address);
+    }
+    Address::Seven(c.address)
 }
 
 // Whether an operation has no bytes.
@@ -384,7 +406,10 @@ fn timeout_out(s: Settings) -> bool
 fn address_out(c: CallEntry) -> bool
     ensures { λ r. ⌜ r ≡ address-out c ⌝ }
 {
-    (c.width == 10) | (c.address > 127)
+    if c.width == 10 {
+        return (c.address > 1023) | !is_polling(c.kind);
+    }
+    c.address > 127
 }
 
 // Cause 24.

@@ -6,13 +6,14 @@ use native.Mathlib.Nat.{add-zero, zero-add, add-assoc, sub-zero}
 use mathlib.Core.Bool.{Bool, true, false, cond}
 use mathlib.Core.Path.{_≡_, refl, _∙_}
 use mathlib.Core.List.{List, [], _∷_, _++_, map, append-nil}
-use lib.Dec.{eqb, leb}
+use lib.Dec.{eqb}
 use borrow.Author.Tests.{eq-eqb, ne-eqb}
 use Rattle.units.specs.declared.Setup.{Setup}
+use Rattle.buslist.specs.declared.Address.{Address}
 use Rattle.buslist.specs.declared.OperationEntry.{OperationEntry}
 use Rattle.buslist.specs.declared.CallEntry.{CallEntry}
 use Rattle.buslist.specs.declared.Joined.{Joined}
-use Rattle.buslist.specs.Meaning.{Operation, operation-of, call-of, calls-of}
+use Rattle.buslist.specs.Meaning.{Operation, Engine, engine-of, is-polling, address-number, operation-of, is-ten, address-of, call-of, calls-of}
 use Rattle.buslist.specs.Combined.{dropped, joined, combined}
 use Rattle.buslist.specs.Next.{operations-from, JoinsAt}
 use Rattle.buslist.specs.Table.{call-count, call-at, operation-at, entries}
@@ -27,8 +28,8 @@ use Rattle.registers.proofs.Steps.{NotWell, not-first}
 use Rattle.i2c.specs.declared.Previous.{Previous}
 use Rattle.i2c.specs.Polling.{polling-steps, is-last}
 use Rattle.blocking.specs.Blocking.{write-without-stop, read-steps, done-last, blocking-steps, operation-steps as blocking-operation}
-use Rattle.engine.specs.Calls.{Engine, engine-of, early, operations-steps, performed, steps-of}
-use Rattle.engine.specs.Whole.{is-polling, operation-steps, moved, rest-steps, Takes, end-steps, Final, more-calls, after-calls, calls-run, final, Ends, Left}
+use Rattle.engine.specs.Calls.{early, operations-steps, performed, steps-of}
+use Rattle.engine.specs.Whole.{operation-steps, moved, rest-steps, Takes, end-steps, Final, more-calls, after-calls, calls-run, final, Ends, Left}
 
 -- no call is done yet
 pub calls-start : {s : Setup} {cs : List (List Step)} {st : State} → Left s cs st 0 cs st
@@ -81,17 +82,17 @@ blocking-call kind = go (engine-of kind)
     go Engine.polling t = let z : _≡_ {A = ℕ} 0 1 = cc in absurd (omega arith)
     go Engine.blocking t = refl
 
--- kinds 0 to 3
-pub polling-kinds : (kind : ℕ) → leb kind 3 ≡ is-polling (engine-of kind)
-unfolding engine-of
-polling-kinds kind = go (leb kind 3)
+-- an address has the number that its entry has, whatever its width
+pub number-of-address : (c : CallEntry) → address-number (address-of c) ≡ c .address
+unfolding address-of
+number-of-address c = go (is-ten c)
   where
-    go : (t : Bool) → t ≡ is-polling (cond t Engine.polling Engine.blocking)
+    go : (ten : Bool) → address-number (cond ten (Address.Ten (c .address)) (Address.Seven (c .address))) ≡ c .address
     go true = refl
     go false = refl
 
 -- a call, one operation at a time
-module _ (s : Setup) (early : Bool) (a : ℕ) (previous : Previous) where
+module _ (s : Setup) (early : Bool) (a : Address) (previous : Previous) where
   pub operations-cons : (e : Engine) (o : Operation) (os : List Operation)
       → operations-steps s e early a previous (o ∷ os) ≡ operation-steps s e early a previous (is-last os) o ++ operations-steps s e early a (moved e previous o) os
   unfolding operations-steps operation-steps moved polling-steps blocking-steps
@@ -149,14 +150,14 @@ module _ (l : List ℕ) (c : CallEntry) (j end : ℕ) where
           performed-listed (c .kind) (operations-from l j end) h,
           performed-listed (c .kind) (operations-from l (j + 1) end) h,
           entries-step (operation-at l) j end below,
-          operations-cons s (early (c .kind)) (c .address) previous (engine-of (c .kind)),
+          operations-cons s (early (c .kind)) (address-of c) previous (engine-of (c .kind)),
           last-is (operation-of l) (operation-at l) j end below,
           ← e,
         );
       }
 
   pub takes-joined : (r : Joined) → c .kind ≡ 7 → JoinsAt l j end r → Takes l c j end r
-  unfolding operations-steps operation-steps moved engine-of
+  unfolding operations-steps operation-steps moved engine-of address-of
   takes-joined r h x =
       record {
         some = x .some;
@@ -166,14 +167,14 @@ module _ (l : List ℕ) (c : CallEntry) (j end : ℕ) where
           performed-combined (c .kind) (operations-from l (r .next) end) h,
           x .first,
           h,
-        ) (first-combined s (c .address) previous (operation-of l (r .operation)) (combined (operations-from l (r .next) end)));
+        ) (first-combined s (address-number (address-of c)) previous (operation-of l (r .operation)) (combined (operations-from l (r .next) end)));
       }
 
 -- no operation is left
 pub operations-done : (s : Setup) (l : List ℕ) (c : CallEntry) (previous : Previous) (j end : ℕ) → end ≤ j
     → rest-steps s c previous (operations-from l j end) ≡ end-steps s (engine-of (c .kind)) previous
 operations-done s l c previous j end h =
-    rw (entries-end (operation-at l) j end h, performed-none (c .kind)) (operations-nil s (early (c .kind)) (c .address) previous (engine-of (c .kind)))
+    rw (entries-end (operation-at l) j end h, performed-none (c .kind)) (operations-nil s (early (c .kind)) (address-of c) previous (engine-of (c .kind)))
 
 -- the calls of a list, as the outer loop takes them
 module _ (s : Setup) (l : List ℕ) where

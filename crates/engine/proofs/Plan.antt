@@ -8,12 +8,13 @@ use mathlib.Core.Path.{_≡_, refl, _∙_}
 use mathlib.Core.List.{List, [], _∷_, _++_}
 use lib.Dec.{eqb, leb}
 use Rattle.units.specs.declared.Setup.{Setup}
-use Rattle.buslist.specs.Meaning.{Operation, write, read, Call}
+use Rattle.buslist.specs.declared.Address.{Address}
+use Rattle.buslist.specs.Meaning.{Operation, write, read, Engine, engine-of, address-number, Call}
 use Rattle.buslist.specs.Combined.{dropped, gather, joined, combined}
 use Rattle.i2c.specs.declared.Previous.{Previous}
-use Rattle.i2c.specs.Polling.{write-bytes, read-bytes, last-read, turn-write, turn-read, turn, transfer, direction, is-last, polling-steps}
+use Rattle.i2c.specs.Polling.{prepare-write, request-read, prepare-read, write-bytes, read-bytes, last-read, turn-write, turn-read, turn, transfer, direction, is-last, polling-steps}
 use Rattle.blocking.specs.Blocking.{later-bytes, write-wait, write-bytes-and-wait, write-without-stop, receive-bytes, last-three, read-arm, read-steps, done-last, close-after, blocking-steps, operation-steps as blocking-operation}
-use Rattle.engine.specs.Calls.{Engine, engine-of, early, operations-steps, performed, steps-of}
+use Rattle.engine.specs.Calls.{early, operations-steps, performed, steps-of}
 use Rattle.registers.specs.declared.BusError.{BusError}
 use Rattle.registers.specs.declared.Flagged.{Flagged}
 use Rattle.registers.specs.declared.Awaited.{Awaited}
@@ -147,19 +148,30 @@ module _ (P G : ℕ → ℕ) (w : Weights P G) where
   read-bytes-total zero = omega arith
   read-bytes-total (suc n) = omega (arith, read-bytes-total n)
 
-  turn-write-none : (a : ℕ) (previous : Previous) → total (turn-write a previous) ≡ 0
-  unfolding turn-write total
-  turn-write-none a Previous.Nothing = omega arith
-  turn-write-none a Previous.Write = omega arith
-  turn-write-none a Previous.Read = omega arith
+  prepare-write-none : (a : Address) → total (prepare-write a) ≡ 0
+  unfolding total
+  prepare-write-none (Address.Seven a) = omega arith
+  prepare-write-none (Address.Ten a) = omega arith
 
-  turn-read-none : (a : ℕ) (previous : Previous) → total (turn-read a previous) ≡ 0
+  prepare-read-none : (a : Address) (first : Bool) → total (prepare-read a first) ≡ 0
+  unfolding request-read total
+  prepare-read-none a false = omega arith
+  prepare-read-none (Address.Seven a) true = omega arith
+  prepare-read-none (Address.Ten a) true = omega arith
+
+  turn-write-none : (a : Address) (previous : Previous) → total (turn-write a previous) ≡ 0
+  unfolding turn-write total
+  turn-write-none a Previous.Nothing = prepare-write-none a
+  turn-write-none a Previous.Write = omega arith
+  turn-write-none a Previous.Read = prepare-write-none a
+
+  turn-read-none : (a : Address) (previous : Previous) → total (turn-read a previous) ≡ 0
   unfolding turn-read total
-  turn-read-none a Previous.Nothing = omega arith
-  turn-read-none a Previous.Write = omega arith
+  turn-read-none a Previous.Nothing = prepare-read-none a true
+  turn-read-none a Previous.Write = prepare-read-none a false
   turn-read-none a Previous.Read = omega arith
 
-  turn-none : (early : Bool) (a : ℕ) (previous : Previous) (o : Operation) → total (turn early a previous o) ≡ 0
+  turn-none : (early : Bool) (a : Address) (previous : Previous) (o : Operation) → total (turn early a previous o) ≡ 0
   unfolding turn total
   turn-none early a previous (write bytes) = turn-write-none a previous
   turn-none true a previous (read zero) = omega arith
@@ -174,7 +186,7 @@ module _ (P G : ℕ → ℕ) (w : Weights P G) where
   transfer-total true (read zero) = omega arith
   transfer-total true (read (suc n)) = total-append (read-bytes n) _ ∙ rw (read-bytes-total n) (omega arith)
 
-  polling-total : (early : Bool) (a : ℕ) (previous : Previous) (os : List Operation) → total (polling-steps early a previous os) ≡ reads-together os
+  polling-total : (early : Bool) (a : Address) (previous : Previous) (os : List Operation) → total (polling-steps early a previous os) ≡ reads-together os
   unfolding polling-steps reads-together total
   polling-total early a previous [] = omega arith
   polling-total early a previous (o ∷ os) =
@@ -277,10 +289,10 @@ module _ (P G : ℕ → ℕ) (w : Weights P G) where
       go false = refl
 
   -- operations plan what they are to receive, in both engines
-  operations-total : (s : Setup) (e : Engine) (early : Bool) (a : ℕ) (os : List Operation) → total (operations-steps s e early a Previous.Nothing os) ≡ reads-together os
+  operations-total : (s : Setup) (e : Engine) (early : Bool) (a : Address) (os : List Operation) → total (operations-steps s e early a Previous.Nothing os) ≡ reads-together os
   unfolding operations-steps
   operations-total s Engine.polling early a os = polling-total early a Previous.Nothing os
-  operations-total s Engine.blocking early a os = blocking-total s a Previous.Nothing os
+  operations-total s Engine.blocking early a os = blocking-total s (address-number a) Previous.Nothing os
 
   -- a call plans what its operations are to receive
   pub steps-total : (s : Setup) (c : Call) → total (steps-of s c) ≡ reads-together (c .operations)

@@ -6,9 +6,10 @@ use mathlib.Core.List.{List, [], _∷_, _++_, map}
 use lib.Dec.{eqb}
 use denote.Ref.{now}
 use Rattle.units.specs.declared.Setup.{Setup}
+use Rattle.buslist.specs.declared.Address.{Address}
 use Rattle.buslist.specs.declared.CallEntry.{CallEntry}
 use Rattle.buslist.specs.declared.Joined.{Joined}
-use Rattle.buslist.specs.Meaning.{Operation, operation-of, calls-of}
+use Rattle.buslist.specs.Meaning.{Operation, Engine, polling, blocking, engine-of, address-number, operation-of, address-of, calls-of}
 use Rattle.buslist.specs.Next.{operations-from}
 use Rattle.registers.specs.declared.Progress.{Progress}
 use Rattle.registers.specs.declared.Outcome.{Outcome}
@@ -20,24 +21,19 @@ use Rattle.i2c.specs.declared.Previous.{Previous}
 use Rattle.i2c.specs.Polling.{direction, operation-steps as polling-operation}
 use Rattle.blocking.specs.Blocking.{done-last, close-after, operation-steps as blocking-operation}
 use Rattle.engine.specs.declared.Counts.{Counts}
-use Rattle.engine.specs.Calls.{Engine, polling, blocking, engine-of, early, operations-steps, performed, steps-of}
-
--- a polling call
-abbrev pub is-polling : Engine → Bool
-is-polling polling = true
-is-polling blocking = false
+use Rattle.engine.specs.Calls.{early, operations-steps, performed, steps-of}
 
 -- one operation, with the operation before it and whether it is the last
-unfoldable pub operation-steps : Setup → Engine → Bool → ℕ → Previous → Bool → Operation → List Step
+unfoldable pub operation-steps : Setup → Engine → Bool → Address → Previous → Bool → Operation → List Step
 operation-steps s polling early a previous last o = polling-operation early a previous last o
-operation-steps s blocking early a previous last o = blocking-operation s a o
+operation-steps s blocking early a previous last o = blocking-operation s (address-number a) o
 
 -- one operation of the call that an entry of the call table has; and of a polling one
 abbrev pub entry-steps : Setup → CallEntry → Previous → Bool → Operation → List Step
-entry-steps s c previous last o = operation-steps s (engine-of (c .kind)) (early (c .kind)) (c .address) previous last o
+entry-steps s c previous last o = operation-steps s (engine-of (c .kind)) (early (c .kind)) (address-of c) previous last o
 
 abbrev pub polling-entry : CallEntry → Previous → Bool → Operation → List Step
-polling-entry c previous last o = polling-operation (early (c .kind)) (c .address) previous last o
+polling-entry c previous last o = polling-operation (early (c .kind)) (address-of c) previous last o
 
 -- the operation before, for the one after o
 unfoldable pub moved : Engine → Previous → Operation → Previous
@@ -46,7 +42,7 @@ moved blocking previous o = done-last previous o
 
 -- what is left to do of the call that an entry has: these operations, after one of direction `previous` or none
 abbrev pub rest-steps : Setup → CallEntry → Previous → List Operation → List Step
-rest-steps s c previous os = operations-steps s (engine-of (c .kind)) (early (c .kind)) (c .address) previous (performed (c .kind) os)
+rest-steps s c previous os = operations-steps s (engine-of (c .kind)) (early (c .kind)) (address-of c) previous (performed (c .kind) os)
 
 -- of the operations from j on a call does the joined one first, then those from the next number on
 pub record Takes (l : List ℕ) (c : CallEntry) (j end : ℕ) (r : Joined) : Type 0 where

@@ -13,12 +13,12 @@ ghost use Prim.Native.Nat.{ℕ, _<_, _≤_};
 ghost use lib.ListN.{length};
 ghost use Rattle.buslist.specs.Refusal.{refusal};
 ghost use Rattle.buslist.specs.Next.{OfAccepted};
-ghost use Rattle.buslist.specs.Meaning.{operation-of};
+ghost use Rattle.buslist.specs.Meaning.{engine-of, operation-of};
 ghost use Rattle.registers.specs.Contract.{DoesWith, Receives};
 ghost use Rattle.i2c.specs.Polling.{direction};
 ghost use Rattle.blocking.specs.Blocking.{operation-steps as blocking-operation};
-ghost use Rattle.engine.specs.Calls.{engine-of, early};
-ghost use Rattle.engine.specs.Whole.{is-polling, entry-steps, polling-entry, moved, Takes, end-steps, RunsCalls, progress-of, ended-counts};
+ghost use Rattle.engine.specs.Calls.{early};
+ghost use Rattle.engine.specs.Whole.{entry-steps, polling-entry, moved, Takes, end-steps, RunsCalls, progress-of, ended-counts};
 ghost use Rattle.engine.specs.Run.{Runs, HostRuns};
 ghost use Rattle.engine.specs.Speed.{speed-out, speed-cr2, speed-trise, speed-ccr};
 
@@ -80,13 +80,6 @@ pub extern "C" fn speed_ccr(pclk1: u32, mode: u32, frequency: u32) -> u32
     units::ccr_word(Hertz(pclk1), units::mode_of(mode), Hertz(frequency))
 }
 
-// Whether a call is polling: kinds 0 to 3.
-fn is_polling(kind: u8) -> bool
-    ensures { λ r. ⌜ r ≡ is-polling (engine-of kind) ⌝ }
-{
-    kind <= 3
-}
-
 // Whether an empty read of a call is an Overrun before it is prepared.
 fn early(kind: u8) -> bool
     ensures { λ r. ⌜ r ≡ early kind ⌝ }
@@ -106,10 +99,10 @@ fn polling_operation(
     previous: Previous,
     last: bool,
 ) -> Outcome
-    requires { ⌜ (call .address < 128) × (progress .got ≤ progress .used) ⌝ }
+    requires { ⌜ progress .got ≤ progress .used ⌝ }
     ensures { λ r. ⌜ ((s : Setup) → Receives s (polling-entry call previous last (operation-of (now (list .entry)) o)) readings log rx progress r) ⌝ }
 {
-    let addr = call.address as u32;
+    let addr = buslist::address_of(call);
     if o.direction == 0 {
         return i2c::write_operation(
             readings,
@@ -145,10 +138,10 @@ fn blocking_operation(
     call: CallEntry,
     o: OperationEntry,
 ) -> Outcome
-    requires { ⌜ (call .address < 128) × (progress .got ≤ progress .used) ⌝ }
+    requires { ⌜ progress .got ≤ progress .used ⌝ }
     ensures { λ r. ⌜ Receives setup (blocking-operation setup (call .address) (operation-of (now (list .entry)) o)) readings log rx progress r ⌝ }
 {
-    let addr = call.address as u32;
+    let addr = call.address;
     if o.direction == 0 {
         return blocking::write_without_stop(
             readings,
@@ -175,10 +168,10 @@ fn operation(
     previous: Previous,
     last: bool,
 ) -> Outcome
-    requires { ⌜ (call .address < 128) × (progress .got ≤ progress .used) ⌝ }
+    requires { ⌜ progress .got ≤ progress .used ⌝ }
     ensures { λ r. ⌜ Receives setup (entry-steps setup call previous last (operation-of (now (list .entry)) o)) readings log rx progress r ⌝ }
 {
-    if is_polling(call.kind) {
+    if buslist::is_polling(call.kind) {
         return polling_operation(list, readings, rx, log, progress, call, o, previous, last);
     }
     blocking_operation(list, readings, rx, log, progress, setup, call, o)
@@ -198,7 +191,7 @@ fn direction(o: OperationEntry) -> Previous
 fn moved(list: &[u8], call: CallEntry, o: OperationEntry, previous: Previous) -> Previous
     ensures { λ r. ⌜ r ≡ moved (engine-of (call .kind)) previous (operation-of (now (list .entry)) o) ⌝ }
 {
-    if is_polling(call.kind) {
+    if buslist::is_polling(call.kind) {
         return direction(o);
     }
     if buslist::is_empty(list, o) {
@@ -218,7 +211,7 @@ fn end_call(
 ) -> Outcome
     ensures { λ r. ⌜ DoesWith setup (end-steps setup (engine-of (call .kind)) previous) readings log progress r ⌝ }
 {
-    if is_polling(call.kind) {
+    if buslist::is_polling(call.kind) {
         return Outcome::Well(progress);
     }
     blocking::close_after(readings, log, progress, setup, previous)

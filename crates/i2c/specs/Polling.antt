@@ -1,11 +1,12 @@
--- The polling engine as steps (document 01, "Polling"), in its order.
-use Prim.Native.Nat.{ℕ, zero, suc, _+_, _*_}
+-- The polling engine as steps (document 01, "Polling"), in its order; ten-bit addresses by document 02 (C-13), UM10204 and RM0008.
+use Prim.Native.Nat.{ℕ, zero, suc, _+_, _*_, _/_, _%_}
 use mathlib.Core.Bool.{Bool, true, false}
 use mathlib.Core.List.{List, [], _∷_, _++_}
+use Rattle.buslist.specs.declared.Address.{Address}
 use Rattle.buslist.specs.Meaning.{Operation, write, read}
 use Rattle.registers.specs.declared.Source.{Source}
 use Rattle.registers.specs.declared.BusError.{BusError}
-use Rattle.registers.specs.Word.{none, one, both, SB, ADDR, BTF, RXNE, TXE, START, STOP, ACK}
+use Rattle.registers.specs.Word.{none, one, both, SB, ADDR, BTF, ADD10, RXNE, TXE, START, STOP, ACK}
 use Rattle.registers.specs.Access.{SR2, DR, wDR}
 use Rattle.registers.specs.Machine.{Step, send-start}
 use Rattle.i2c.specs.declared.Previous.{Previous}
@@ -15,27 +16,52 @@ abbrev pub address-byte : ℕ → Bool → ℕ
 address-byte a false = 2 * a
 address-byte a true = 2 * a + 1
 
+-- the header of a ten-bit address: 11110 in binary, the address's two high bits, and 0 for a write, 1 for a read
+abbrev pub header-byte : ℕ → Bool → ℕ
+header-byte a false = 0xf0 + 2 * (a / 256)
+header-byte a true = 0xf0 + 2 * (a / 256) + 1
+
+-- the byte that a prepare sends after START: the address byte, or the header
+abbrev pub first-byte : Address → Bool → ℕ
+first-byte (Address.Seven a) reads = address-byte a reads
+first-byte (Address.Ten a) reads = header-byte a reads
+
+-- the low byte of a ten-bit address, after the header of a write: check until ADD10 (AF: Address); write DR the low byte
+abbrev pub send-low-byte : Address → List Step
+send-low-byte (Address.Seven a) = []
+send-low-byte (Address.Ten a) = Step.check ADD10 Source.Address ∷ Step.put wDR (a % 256) ∷ []
+
 -- `prepare_write`, the request: read CR1 until STOP is clear; write SR1 0; set START in CR1; check until SB; check and read SR2 until MSL or BUSY
 abbrev pub request-write : List Step
 request-write = Step.stop-clear ∷ send-start (one START) ++ Step.check SB Source.Unknown ∷ Step.check-master ∷ []
 
--- its address phase: write DR 2 × address; check until ADDR (AF: Address); read SR2
-abbrev pub address-write : ℕ → List Step
-address-write a = Step.put wDR (address-byte a false) ∷ Step.check ADDR Source.Address ∷ Step.get SR2 ∷ []
+-- its address phase: write DR 2 × address, or the header and then the low byte; check until ADDR (AF: Address); read SR2
+abbrev pub address-write : Address → List Step
+address-write a = Step.put wDR (first-byte a false) ∷ send-low-byte a ++ Step.check ADDR Source.Address ∷ Step.get SR2 ∷ []
 
-abbrev pub prepare-write : ℕ → List Step
+abbrev pub prepare-write : Address → List Step
 prepare-write a = request-write ++ address-write a
 
--- `prepare_read`, the request: the same, but set START and ACK; plain SR1 reads until SB; SR2 reads alone until MSL or BUSY
-abbrev pub request-read : List Step
-request-read = Step.stop-clear ∷ send-start (both START ACK) ++ Step.flag SB ∷ Step.master ∷ []
+-- `prepare_read`, its START: the same, but set START and ACK; plain SR1 reads until SB; SR2 reads alone until MSL or BUSY
+abbrev pub start-read : List Step
+start-read = Step.stop-clear ∷ send-start (both START ACK) ++ Step.flag SB ∷ Step.master ∷ []
 
--- its address phase: DR 2 × address + 1; check (AF: Address) and a second SR1 read until the second has ADDR; read SR2
-abbrev pub address-read : ℕ → List Step
-address-read a = Step.put wDR (address-byte a true) ∷ Step.check-twice ADDR Source.Address ∷ Step.get SR2 ∷ []
+-- its START in a ten-bit call that begins with a read, after all of `prepare_write`: set START and ACK; plain SR1 reads until SB
+abbrev pub repeat-start : List Step
+repeat-start = Step.modify (both START ACK) none ∷ Step.flag SB ∷ []
 
-abbrev pub prepare-read : ℕ → List Step
-prepare-read a = request-read ++ address-read a
+-- its request, for the first operation of a call (`first_transaction`) or a later one
+unfoldable pub request-read : Address → Bool → List Step
+request-read a false = start-read
+request-read (Address.Seven a) true = start-read
+request-read (Address.Ten a) true = prepare-write (Address.Ten a) ++ repeat-start
+
+-- its address phase: DR 2 × address + 1, or the header with its low bit 1; check (AF: Address) and a second SR1 read until the second has ADDR; read SR2
+abbrev pub address-read : Address → List Step
+address-read a = Step.put wDR (first-byte a true) ∷ Step.check-twice ADDR Source.Address ∷ Step.get SR2 ∷ []
+
+abbrev pub prepare-read : Address → Bool → List Step
+prepare-read a first = request-read a first ++ address-read a
 
 -- `send_byte`: check until TXE (AF: Address), write DR, check until BTF (AF: Data)
 abbrev pub send-byte : ℕ → List Step
@@ -64,18 +90,18 @@ last-read zero = Step.fail BusError.Overrun ∷ []
 last-read (suc n) = read-bytes n ++ (Step.modify (one STOP) (one ACK) ∷ recv-byte ++ Step.stop-clear ∷ [])
 
 -- `transaction_slice`: prepare for the first operation and at each change of direction
-unfoldable pub turn-write : ℕ → Previous → List Step
+unfoldable pub turn-write : Address → Previous → List Step
 turn-write a Previous.Nothing = prepare-write a
 turn-write a Previous.Write = []
 turn-write a Previous.Read = prepare-write a
 
-unfoldable pub turn-read : ℕ → Previous → List Step
-turn-read a Previous.Nothing = prepare-read a
-turn-read a Previous.Write = prepare-read a
+unfoldable pub turn-read : Address → Previous → List Step
+turn-read a Previous.Nothing = prepare-read a true
+turn-read a Previous.Write = prepare-read a false
 turn-read a Previous.Read = []
 
 -- `read` and the read half of `write_read` (early) answer Overrun for an empty buffer before preparing that read
-unfoldable pub turn : Bool → ℕ → Previous → Operation → List Step
+unfoldable pub turn : Bool → Address → Previous → Operation → List Step
 turn early a previous (write bytes) = turn-write a previous
 turn true a previous (read zero) = Step.fail BusError.Overrun ∷ []
 turn true a previous (read (suc n)) = turn-read a previous
@@ -89,7 +115,7 @@ transfer true (write bytes) = last-write bytes
 transfer true (read n) = last-read n
 
 -- what one operation of a polling call does, after the operation before it
-abbrev pub operation-steps : Bool → ℕ → Previous → Bool → Operation → List Step
+abbrev pub operation-steps : Bool → Address → Previous → Bool → Operation → List Step
 operation-steps early a previous last o = turn early a previous o ++ transfer last o
 
 abbrev pub direction : Operation → Previous
@@ -101,6 +127,6 @@ is-last [] = true
 is-last (o ∷ os) = false
 
 -- the operations of a polling call, in order
-unfoldable pub polling-steps : Bool → ℕ → Previous → List Operation → List Step
+unfoldable pub polling-steps : Bool → Address → Previous → List Operation → List Step
 polling-steps early a previous [] = []
 polling-steps early a previous (o ∷ os) = operation-steps early a previous (is-last os) o ++ polling-steps early a (direction o) os

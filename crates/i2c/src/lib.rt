@@ -1,4 +1,5 @@
 // The I2C master, named and ordered as the Rust's src/i2c.rs: what both engines share, then the polling engine.
+use buslist::Address;
 use registers::Bits;
 use registers::BusError;
 use registers::Checked;
@@ -30,7 +31,7 @@ ghost use Rattle.registers.specs.Machine.{Step, bring-up, reset, send-start, ch
 ghost use Rattle.registers.specs.Access.{wDR};
 ghost use Rattle.registers.specs.Contract.{Writes, Checks, DoesWith, Does, Receives};
 ghost use Rattle.i2c.specs.Flags.{no-error-flag};
-ghost use Rattle.i2c.specs.Polling.{address-byte, request-write, address-write, prepare-write, request-read, address-read, prepare-read, send-byte, recv-byte, write-bytes, read-bytes, last-write, last-read, turn-write, turn-read, operation-steps};
+ghost use Rattle.i2c.specs.Polling.{address-byte, first-byte, send-low-byte, request-write, address-write, prepare-write, start-read, repeat-start, request-read, address-read, prepare-read, send-byte, recv-byte, write-bytes, read-bytes, last-write, last-read, turn-write, turn-read, operation-steps};
 
 // The operation before, in a call.
 pub enum Previous {
@@ -93,14 +94,14 @@ pub fn send_start(readings: &[u32], log: &mut [u32], progress: Progress) -> Outc
 }
 
 // Sends the (7-bit) address. The last bit of the byte is set for a read.
-pub fn send_addr(log: &mut [u32], progress: Progress, addr: u32, read: bool) -> Outcome
-    requires { ⌜ addr < 128 ⌝ }
+pub fn send_addr(log: &mut [u32], progress: Progress, addr: u16, read: bool) -> Outcome
     ensures { λ r. ⌜ Writes wDR (address-byte addr read) log progress r ⌝ }
 {
+    let byte = 2 * (addr as u32);
     if read {
-        return write(log, progress, registers::W_DR, 2 * addr + 1);
+        return write(log, progress, registers::W_DR, byte + 1);
     }
-    write(log, progress, registers::W_DR, 2 * addr)
+    write(log, progress, registers::W_DR, byte)
 }
 
 // Generate STOP condition.
@@ -322,25 +323,51 @@ fn request_write(readings: &[u32], log: &mut [u32], progress: Progress) -> Outco
     check_master(readings, log, progress3)
 }
 
+// Sends the byte after START: the address, or the header of a ten-bit one, F0 hex and its two high bits.
+fn send_first_byte(log: &mut [u32], progress: Progress, addr: Address, read: bool) -> Outcome
+    ensures { λ r. ⌜ Writes wDR (first-byte addr read) log progress r ⌝ }
+{
+    match addr {
+        Address::Seven(address) => send_addr(log, progress, address, read),
+        Address::Ten(address) => send_addr(log, progress, 0x78 + address / 256, read),
+    }
+}
+
+// Sends the low byte of a ten-bit address, once its header is acknowledged.
+fn send_low_byte(readings: &[u32], log: &mut [u32], progress: Progress, addr: Address) -> Outcome
+    ensures { λ r. ⌜ Does (send-low-byte addr) readings log progress r ⌝ }
+{
+    let Address::Ten(address) = addr else {
+        return Outcome::Well(progress);
+    };
+    let a = check_until(readings, log, progress, registers::ADD10, Source::Address);
+    let Outcome::Well(next) = a else {
+        return a;
+    };
+    write(log, next, registers::W_DR, address as u32 % 256)
+}
+
 // Sends the address for writing and waits for its acknowledge.
-fn address_write(readings: &[u32], log: &mut [u32], progress: Progress, addr: u32) -> Outcome
-    requires { ⌜ addr < 128 ⌝ }
+fn address_write(readings: &[u32], log: &mut [u32], progress: Progress, addr: Address) -> Outcome
     ensures { λ r. ⌜ Does (address-write addr) readings log progress r ⌝ }
 {
-    let a = send_addr(log, progress, addr, false);
+    let a = send_first_byte(log, progress, addr, false);
     let Outcome::Well(progress1) = a else {
         return a;
     };
-    let b = check_until(readings, log, progress1, registers::ADDR, Source::Address);
+    let b = send_low_byte(readings, log, progress1, addr);
     let Outcome::Well(progress2) = b else {
         return b;
     };
-    get(readings, log, progress2, registers::SR2)
+    let c = check_until(readings, log, progress2, registers::ADDR, Source::Address);
+    let Outcome::Well(progress3) = c else {
+        return c;
+    };
+    get(readings, log, progress3, registers::SR2)
 }
 
 // Sends START and address for writing.
-fn prepare_write(readings: &[u32], log: &mut [u32], progress: Progress, addr: u32) -> Outcome
-    requires { ⌜ addr < 128 ⌝ }
+fn prepare_write(readings: &[u32], log: &mut [u32], progress: Progress, addr: Address) -> Outcome
     ensures { λ r. ⌜ Does (prepare-write addr) readings log progress r ⌝ }
 {
     let a = request_write(readings, log, progress);
@@ -351,8 +378,8 @@ fn prepare_write(readings: &[u32], log: &mut [u32], progress: Progress, addr: u3
 }
 
 // Sends START with ACK set, and waits until we are master.
-fn request_read(readings: &[u32], log: &mut [u32], progress: Progress) -> Outcome
-    ensures { λ r. ⌜ Does request-read readings log progress r ⌝ }
+fn start_read(readings: &[u32], log: &mut [u32], progress: Progress) -> Outcome
+    ensures { λ r. ⌜ Does start-read readings log progress r ⌝ }
 {
     let a = until_stop_clear(readings, log, progress);
     let Outcome::Well(progress1) = a else {
@@ -374,12 +401,46 @@ fn request_read(readings: &[u32], log: &mut [u32], progress: Progress) -> Outcom
     until_master(readings, log, progress3)
 }
 
+// Sends START again, with ACK set, in a ten-bit call that was prepared for writing and is to read.
+fn repeat_start(readings: &[u32], log: &mut [u32], progress: Progress) -> Outcome
+    ensures { λ r. ⌜ Does repeat-start readings log progress r ⌝ }
+{
+    let on = Bits(registers::START, registers::ACK);
+    let a = modify_cr1(readings, log, progress, on, Bits(0, 0));
+    let Outcome::Well(next) = a else {
+        return a;
+    };
+    until_flag(readings, log, next, registers::SB)
+}
+
+// The request for a read. A ten-bit call that begins with one is prepared for writing first.
+fn request_read(
+    readings: &[u32],
+    log: &mut [u32],
+    progress: Progress,
+    addr: Address,
+    first_transaction: bool,
+) -> Outcome
+    ensures { λ r. ⌜ Does (request-read addr «first_transaction») readings log progress r ⌝ }
+{
+    if !first_transaction {
+        return start_read(readings, log, progress);
+    }
+    let Address::Ten(_) = addr else {
+        return start_read(readings, log, progress);
+    };
+    let a = prepare_write(readings, log, progress, addr);
+    let Outcome::Well(next) = a else {
+        return a;
+    };
+    repeat_start(readings, log, next)
+}
+
 // Sends the address for reading and waits for its acknowledge.
-fn address_read(readings: &[u32], log: &mut [u32], progress: Progress, addr: u32) -> Outcome
-    requires { ⌜ addr < 128 ⌝ }
+fn address_read(readings: &[u32], log: &mut [u32], progress: Progress, addr: Address) -> Outcome
     ensures { λ r. ⌜ Does (address-read addr) readings log progress r ⌝ }
 {
-    let a = send_addr(log, progress, addr, true);
+    let a = send_first_byte(log, progress, addr, true);
     let Outcome::Well(progress1) = a else {
         return a;
     };
@@ -390,12 +451,17 @@ fn address_read(readings: &[u32], log: &mut [u32], progress: Progress, addr: u32
     get(readings, log, progress2, registers::SR2)
 }
 
-// Sends START and address for reading.
-fn prepare_read(readings: &[u32], log: &mut [u32], progress: Progress, addr: u32) -> Outcome
-    requires { ⌜ addr < 128 ⌝ }
-    ensures { λ r. ⌜ Does (prepare-read addr) readings log progress r ⌝ }
+// Sends START and address for reading. `first_transaction`: no operation of the call came before.
+fn prepare_read(
+    readings: &[u32],
+    log: &mut [u32],
+    progress: Progress,
+    addr: Address,
+    first_transaction: bool,
+) -> Outcome
+    ensures { λ r. ⌜ Does (prepare-read addr «first_transaction») readings log progress r ⌝ }
 {
-    let a = request_read(readings, log, progress);
+    let a = request_read(readings, log, progress, addr, first_transaction);
     let Outcome::Well(next) = a else {
         return a;
     };
@@ -518,10 +584,9 @@ fn turn_write(
     readings: &[u32],
     log: &mut [u32],
     progress: Progress,
-    addr: u32,
+    addr: Address,
     previous: Previous,
 ) -> Outcome
-    requires { ⌜ addr < 128 ⌝ }
     ensures { λ r. ⌜ Does (turn-write addr previous) readings log progress r ⌝ }
 {
     match previous {
@@ -535,15 +600,15 @@ fn turn_read(
     readings: &[u32],
     log: &mut [u32],
     progress: Progress,
-    addr: u32,
+    addr: Address,
     previous: Previous,
 ) -> Outcome
-    requires { ⌜ addr < 128 ⌝ }
     ensures { λ r. ⌜ Does (turn-read addr previous) readings log progress r ⌝ }
 {
     match previous {
+        Previous::Nothing => prepare_read(readings, log, progress, addr, true),
+        Previous::Write => prepare_read(readings, log, progress, addr, false),
         Previous::Read => Outcome::Well(progress),
-        _ => prepare_read(readings, log, progress, addr),
     }
 }
 
@@ -552,12 +617,11 @@ pub fn write_operation(
     readings: &[u32],
     log: &mut [u32],
     progress: Progress,
-    addr: u32,
+    addr: Address,
     previous: Previous,
     last: bool,
     bytes: &[u8],
 ) -> Outcome
-    requires { ⌜ addr < 128 ⌝ }
     ensures { λ r. ⌜ ((e : Bool) → Does (operation-steps e addr previous last (Operation.write (now (bytes .entry)))) readings log progress r) ⌝ }
 {
     let a = turn_write(readings, log, progress, addr, previous);
@@ -576,13 +640,13 @@ pub fn read_operation(
     log: &mut [u32],
     rx: &mut [u8],
     progress: Progress,
-    addr: u32,
+    addr: Address,
     previous: Previous,
     last: bool,
     early: bool,
     count: usize,
 ) -> Outcome
-    requires { ⌜ (addr < 128) × (progress .got ≤ progress .used) ⌝ }
+    requires { ⌜ progress .got ≤ progress .used ⌝ }
     ensures { λ r. ⌜ ((s : Setup) → Receives s (operation-steps early addr previous last (Operation.read count)) readings log rx progress r) ⌝ }
 {
     if early & (count == 0) {

@@ -18,6 +18,9 @@ ADDR = bit 1
 abbrev pub BTF : ℕ
 BTF = bit 2
 
+abbrev pub ADD10 : ℕ
+ADD10 = bit 3
+
 abbrev pub RXNE : ℕ
 RXNE = bit 6
 

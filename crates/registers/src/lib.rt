@@ -43,6 +43,8 @@ pub const ADDR: u32 = 0x0002;
 
 pub const BTF: u32 = 0x0004;
 
+pub const ADD10: u32 = 0x0008;
+
 pub const RXNE: u32 = 0x0040;
 
 pub const TXE: u32 = 0x0080;

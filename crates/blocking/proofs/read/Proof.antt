@@ -43,7 +43,7 @@ read-arm-requires c κs =
     let at-if1 = at-send-start-and-wait .before .before in
     let at-start = at-if1 .before .before .before .before in (
       keeps-fewer (at-send-addr-and-wait .send-addr-and-wait .ensures []) (at-b .b .given .1)
-          (keeps-fewer (at-send-start-and-wait .send-start-and-wait .ensures []) (at-a .a .given .1) (at-start .pre .1)),
+          (keeps-fewer (at-send-start-and-wait .send-start-and-wait .ensures []) (at-a .a .given .1) (at-start .pre)),
       omega (arith, at-if1 .if1 .left),
     )
 

@@ -1,5 +1,5 @@
 use Rattle.engine.specs.Whole.{operation-steps}
-use Rattle.engine.proofs.CallLaws.{polling-call, blocking-call}
+use Rattle.engine.proofs.CallLaws.{polling-call, blocking-call, number-of-address}
 use mathlib.Core.Path.{sym, _∙_}
 use borrow.Author.Needs.{needs}
 use Rattle.engine.proofs.operation.Statement.{statement}
@@ -19,7 +19,7 @@ returns-2 c =
     let at-blocking-operation = c .before .before .before .before in
     let at-if1 = at-blocking-operation .before .before .before in
     let at-is-polling = at-if1 .before in
-    rw (blocking-call _ (sym (at-is-polling .is-polling .ensures) ∙ at-if1 .if1 .left)) (at-blocking-operation .blocking-operation .ensures)
+    rw (blocking-call _ (sym (at-is-polling .is-polling .ensures) ∙ at-if1 .if1 .left), number-of-address) (at-blocking-operation .blocking-operation .ensures)
 
 pub operation-spec : {M : Type 1} → statement M
 operation-spec =

@@ -8,7 +8,7 @@ use borrow.Author.Needs.{needs}
 use Rattle.buslist.specs.Table.{call-count}
 use Rattle.buslist.specs.Meaning.{calls-of}
 use Rattle.buslist.specs.Next.{operations-from}
-use Rattle.buslist.proofs.Accept.{call-address, call-within}
+use Rattle.buslist.proofs.Accept.{call-within}
 use Rattle.registers.specs.declared.Outcome.{Outcome}
 use Rattle.registers.specs.State.{at}
 use Rattle.registers.specs.Contract.{Reaches}
@@ -85,15 +85,7 @@ operation-from-requires c κs =
     )
 
 operation-requires : tie.Need-operation-requires Inv-loop μ-loop Inv-calls μ-calls
-operation-requires c κs =
-    let at-loop = c .before .before .before .before .before .before in
-    let at-call-at = at-loop .before .before .before .before in
-    let at-calls-test = at-call-at .before in
-    let at-calls = at-calls-test .before in
-    let at-call-count = at-calls .before .before .before in
-    let at-start = at-call-count .before .before .before .before .before in
-    let h : at-calls .calls .k < call-count (at-start .args .list .now) = omega (arith, at-calls-test .calls-test .taken, at-call-count .call-count .ensures) in
-    (rw (at-call-at .call-at .ensures) (call-address _ _ (at-start .pre .0) _ h), at-loop .loop .inv .3)
+operation-requires c κs = c .before .before .before .before .before .before .loop .inv .3
 
 enum-known-outcome : tie.Need-enum-known-outcome Inv-loop μ-loop Inv-calls μ-calls
 enum-known-outcome c = search needs

@@ -10,13 +10,14 @@ use Rattle.buslist.specs.Meaning.{Operation}
 use Rattle.registers.specs.declared.BusError.{BusError}
 use Rattle.registers.specs.Machine.{Step}
 use Rattle.registers.proofs.Steps.{here, rewritten, call-step, call-stops, call-last, ends-failed, no-setup, keeps-fewer}
+use Rattle.buslist.specs.declared.Address.{Address}
 use Rattle.i2c.specs.declared.Previous.{Previous}
 use Rattle.i2c.specs.Polling.{read-bytes, last-read, turn-read, turn, transfer, operation-steps}
 use Rattle.i2c.proofs.read_operation.Statement.{statement}
 use Rattle.i2c.proofs.read_operation.Tie as tie
 
 -- an empty read that ends before its turn
-none-early : (early : Bool) (n : ℕ) (a : ℕ) (p : Previous) (last : Bool) → (early && eqb n 0) ≡ true
+none-early : (early : Bool) (n : ℕ) (a : Address) (p : Previous) (last : Bool) → (early && eqb n 0) ≡ true
     → operation-steps early a p last (Operation.read n) ≡ Step.fail BusError.Overrun ∷ transfer last (Operation.read n)
 unfolding turn
 none-early true zero a p last e = refl
@@ -24,7 +25,7 @@ none-early true (suc n) a p last e = let h = eqb-true (suc n) 0 e in absurd (ome
 none-early false n a p last e = absurd (false≢true e)
 
 -- the steps of any other, the last one or not
-reads : (early : Bool) (n : ℕ) (b : Bool) {last : Bool} (a : ℕ) (p : Previous) → (early && eqb n 0) ≡ false → last ≡ b
+reads : (early : Bool) (n : ℕ) (b : Bool) {last : Bool} (a : Address) (p : Previous) → (early && eqb n 0) ≡ false → last ≡ b
     → operation-steps early a p last (Operation.read n) ≡ turn-read a p ++ cond b (last-read n) (read-bytes n)
 unfolding turn transfer
 reads true zero b a p h e = absurd (false≢true (sym h))
@@ -47,7 +48,7 @@ returns-2 c s =
 turned : (c : tie.After-known-told) → c .before .a .given .0 .0 .got ≤ c .before .a .given .0 .0 .used
 turned c =
     keeps-fewer (c .before .before .before .before .before .turn-read .ensures no-setup []) (c .before .a .given .1)
-    (c .before .before .before .before .before .before .before .before .before .before .before .pre .1)
+    (c .before .before .before .before .before .before .before .before .before .before .before .pre)
 
 read-wo-prepare-requires : tie.Need-read-wo-prepare-requires
 read-wo-prepare-requires c κs = turned (c .before .before .before)

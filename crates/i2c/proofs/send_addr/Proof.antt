@@ -17,7 +17,6 @@ send-addr-spec =
     (λ c κs. search needs)
     (λ c. search needs)
     returns
-    (λ c. search needs)
     (λ c κs. search needs)
     (λ c. search needs)
     returns-2)

@@ -1,34 +1,21 @@
-use Prim.Native.Nat.{ℕ}
-use native.Mathlib.Omega.{arith}
-use mathlib.Core.Logic.{⊎-elim}
-use mathlib.Core.Path.{_≡_, refl}
-use mathlib.Core.List.{[], _∷_}
-use types.Run.{OneOf}
-use denote.Enum.Declared.{tagOf}
+use mathlib.Core.Path.{ap}
 use borrow.Author.Needs.{needs}
 use Rattle.registers.proofs.Steps.{here, rewritten, call-last, ends-well}
-use Rattle.i2c.specs.declared.Previous.{Previous}
-use Rattle.i2c.specs.Polling.{prepare-read, turn-read}
-use Rattle.i2c.proofs.Previous as P
+use Rattle.i2c.specs.Polling.{turn-read}
 use Rattle.i2c.proofs.turn_read.Statement.{statement}
 use Rattle.i2c.proofs.turn_read.Tie as tie
 
--- the operation before went the same way, or not
-same-way : (a : ℕ) (p : Previous) → p ≡ Previous.Read → turn-read a p ≡ []
-unfolding turn-read
-same-way a p e = rw e
-
-other-way : (a : ℕ) (p : Previous) → OneOf (0 ∷ 1 ∷ []) (tagOf P.the-type p) → turn-read a p ≡ prepare-read a
-unfolding turn-read
-other-way a Previous.Nothing h = refl
-other-way a Previous.Write h = refl
-other-way a Previous.Read h = ⊎-elim (λ (e : _≡_ {A = ℕ} 2 0). absurd (omega arith)) (λ (e : _≡_ {A = ℕ} 2 1). absurd (omega arith)) h
-
 returns : tie.Need-returns
-returns c s rx = ends-well (rewritten (same-way _ _ (c .enum-told .given .1)) here)
+unfolding turn-read
+returns c s rx = call-last (rewritten (ap (turn-read _) (c .before .before .before .before .enum-told .given .1)) here) (c .before .before .prepare-read .ensures s rx)
 
 returns-2 : tie.Need-returns-2
-returns-2 c s rx = call-last (rewritten (other-way _ _ (c .before .before .before .before .match .keys2)) here) (c .before .before .prepare-read .ensures s rx)
+unfolding turn-read
+returns-2 c s rx = call-last (rewritten (ap (turn-read _) (c .before .before .before .before .enum-told2 .given .1)) here) (c .before .before .prepare-read2 .ensures s rx)
+
+returns-3 : tie.Need-returns-3
+unfolding turn-read
+returns-3 c s rx = ends-well (rewritten (ap (turn-read _) (c .enum-told3 .given .1)) here)
 
 pub turn-read-spec : {M : Type 1} → statement M
 turn-read-spec =
@@ -36,6 +23,11 @@ turn-read-spec =
     (tie.spec
     (λ c. search needs)
     (λ c κs. search needs)
+    (λ c. search needs)
+    (λ c κs. search needs)
+    (λ c. search needs)
+    (λ c. search needs)
     returns
     (λ c. search needs)
-    returns-2)
+    returns-2
+    returns-3)

@@ -7,6 +7,7 @@ use types.Run.{OneOf}
 use denote.Enum.Declared.{tagOf}
 use borrow.Author.Needs.{needs}
 use Rattle.registers.proofs.Steps.{here, rewritten, call-last, ends-well}
+use Rattle.buslist.specs.declared.Address.{Address}
 use Rattle.i2c.specs.declared.Previous.{Previous}
 use Rattle.i2c.specs.Polling.{prepare-write, turn-write}
 use Rattle.i2c.proofs.Previous as P
@@ -14,11 +15,11 @@ use Rattle.i2c.proofs.turn_write.Statement.{statement}
 use Rattle.i2c.proofs.turn_write.Tie as tie
 
 -- the operation before went the same way, or not
-same-way : (a : ℕ) (p : Previous) → p ≡ Previous.Write → turn-write a p ≡ []
+same-way : (a : Address) (p : Previous) → p ≡ Previous.Write → turn-write a p ≡ []
 unfolding turn-write
 same-way a p e = rw e
 
-other-way : (a : ℕ) (p : Previous) → OneOf (0 ∷ 2 ∷ []) (tagOf P.the-type p) → turn-write a p ≡ prepare-write a
+other-way : (a : Address) (p : Previous) → OneOf (0 ∷ 2 ∷ []) (tagOf P.the-type p) → turn-write a p ≡ prepare-write a
 unfolding turn-write
 other-way a Previous.Nothing h = refl
 other-way a Previous.Write h = ⊎-elim (λ (e : _≡_ {A = ℕ} 1 0). absurd (omega arith)) (λ (e : _≡_ {A = ℕ} 1 2). absurd (omega arith)) h

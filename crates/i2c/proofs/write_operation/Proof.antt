@@ -5,13 +5,14 @@ use mathlib.Core.List.{List, _++_}
 use borrow.Author.Needs.{needs}
 use Rattle.buslist.specs.Meaning.{Operation}
 use Rattle.registers.proofs.Steps.{here, rewritten, call-step, call-stops, call-last}
+use Rattle.buslist.specs.declared.Address.{Address}
 use Rattle.i2c.specs.declared.Previous.{Previous}
 use Rattle.i2c.specs.Polling.{write-bytes, last-write, turn-write, turn, transfer, operation-steps}
 use Rattle.i2c.proofs.write_operation.Statement.{statement}
 use Rattle.i2c.proofs.write_operation.Tie as tie
 
 -- the steps of a write, the last one or not
-writes : (early b : Bool) {last : Bool} (a : ℕ) (p : Previous) (bytes : List ℕ) → last ≡ b
+writes : (early b : Bool) {last : Bool} (a : Address) (p : Previous) (bytes : List ℕ) → last ≡ b
     → operation-steps early a p last (Operation.write bytes) ≡ turn-write a p ++ cond b (last-write bytes) (write-bytes bytes)
 unfolding turn transfer
 writes true true a p bytes e = rw e
