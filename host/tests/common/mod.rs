@@ -2,7 +2,8 @@
 #![allow(dead_code)]
 
 use vandhukril::{
-    ACCESS_WORDS, BusList, Cause, Counts, Error, Hertz, Micros, Mode, Refusal, Settings, run,
+    ACCESS_WORDS, Address, BusList, Cause, Counts, Error, Hertz, Micros, Mode, Refusal, Settings,
+    run,
 };
 
 /// What both buffers are full of before a run, to see what the run leaves as it was.
@@ -10,7 +11,7 @@ pub const OLD_BYTE: u8 = 0xa5;
 pub const OLD_WORD: u32 = 0xa5a5_a5a5;
 
 /// A reading with every flag that a run waits for, and none that ends or holds up a call.
-pub const READY: u32 = 0xc7;
+pub const READY: u32 = 0xcf;
 
 /// A run, with both buffers after it.
 #[derive(Clone, Debug, PartialEq, Eq)]
@@ -141,7 +142,7 @@ pub fn settings() -> Settings {
     }
 }
 
-/// A list with every kind of call, empty operations and idle calls among them.
+/// A list with every kind of call and both widths of address, empty operations and idle calls among them.
 pub fn every_kind() -> BusList {
     use vandhukril::Operation::{Read, Write};
     let mut list = BusList::new(settings());
@@ -159,6 +160,11 @@ pub fn every_kind() -> BusList {
                 Read(2),
             ],
         )
+        .write(Address::Ten(0x155), &[16])
+        .read(Address::Ten(0x256), 2)
+        .transaction(Address::Ten(0x3ff), [])
+        .write_read(Address::Ten(0), &[17], 1)
+        .transaction(Address::Ten(0x78), [Read(1), Write(vec![18]), Read(1)])
         .blocking_write(0x55, &[6, 7, 8])
         .blocking_read(0x56, 1)
         .blocking_read(0x57, 2)
