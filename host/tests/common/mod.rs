@@ -2,8 +2,8 @@
 #![allow(dead_code)]
 
 use vandhukril::{
-    ACCESS_WORDS, Address, BusList, Cause, Counts, Error, Hertz, Micros, Mode, Refusal, Settings,
-    run,
+    ACCESS_WORDS, Address, BusList, Cause, Counts, Error, Hertz, Micros, Mode, Operation, Refusal,
+    Settings, accesses, run,
 };
 
 /// What both buffers are full of before a run, to see what the run leaves as it was.
@@ -40,6 +40,14 @@ impl Ran {
             &self.record[..ACCESS_WORDS * counts.accesses],
             &self.received[..counts.received],
         )
+    }
+
+    /// What the run writes to DR: address bytes, and bytes of data.
+    pub fn sent(&self) -> Vec<u32> {
+        accesses(self.written().0)
+            .filter(|access| access.code == 16)
+            .map(|access| access.value)
+            .collect()
     }
 
     /// Holds the run to what follows from its record alone: the counts, the received bytes, the values
@@ -182,6 +190,25 @@ pub fn every_kind() -> BusList {
             [Write(vec![14]), Read(0), Write(vec![15]), Read(1), Read(1)],
         );
     list
+}
+
+/// Every sequence of up to so many operations of 0 to 2 bytes. Each byte that is written tells its place.
+pub fn short_sequences(longest: u8) -> Vec<Vec<Operation>> {
+    use vandhukril::Operation::{Read, Write};
+    let mut all = vec![Vec::new()];
+    let mut shorter = all.clone();
+    for place in 0..longest {
+        let bytes = [2 * place + 1, 2 * place + 2];
+        let next = (0..3_u8).flat_map(|n| [Write(bytes[..n.into()].to_vec()), Read(n.into())]);
+        let next: Vec<Operation> = next.collect();
+        let longer = shorter.iter().flat_map(|before| {
+            next.iter()
+                .map(|last| before.iter().chain([last]).cloned().collect())
+        });
+        shorter = longer.collect();
+        all.extend(shorter.iter().cloned());
+    }
+    all
 }
 
 /// Numbers that look drawn, the same on every run.
