@@ -2,11 +2,9 @@
 
 mod common;
 
-use common::{READY, Ran, run_with, settings, short_sequences};
+use common::{READY, Ran, as_by_hand, run_with, settings, short_sequences};
 use vandhukril::Operation::{Read, Write};
-use vandhukril::{
-    Address, BusList, Hertz, Mode, Operation, PollingSettings, Report, explain, show,
-};
+use vandhukril::{Address, BusList, Hertz, Mode, Operation, PollingSettings, Report};
 
 const AF: u32 = 0x400;
 
@@ -44,22 +42,15 @@ fn example() -> BusList<PollingSettings> {
 
 #[test]
 fn a_ten_bit_read_as_bytes_and_back() {
-    let header: [u32; 16] = [
+    let header = [
         1, 64, 1, 72, 0, 80, 36_000_000, 0, 0, 100_000, 0, 0, 0, 0, 0, 0,
     ];
-    let mut bytes: Vec<u8> = header.into_iter().flat_map(u32::to_le_bytes).collect();
-    bytes.extend([1, 10, 0x23, 0x01, 0, 0, 1, 0]);
-    bytes.extend([1, 0, 1, 0, 0, 0, 0, 0]);
-    assert_eq!(example().to_bytes().as_ref(), Ok(&bytes));
-
-    let read = BusList::from_bytes(&bytes).expect("it is of the form");
-    assert_eq!(read.calls(), example().calls());
-    assert_eq!(read.calls()[0].address(), Address::Ten(0x123));
-    assert!(show(&bytes).contains(
-        "\n64: call 0: polling read, address width 10, address 0x123, \
-         first operation 0, operation count 1\n"
-    ));
-    assert_eq!(explain(&bytes, 1), Ok(vec![]));
+    let call = [1, 10, 0x23, 0x01, 0, 0, 1, 0];
+    let operation = [1, 0, 1, 0, 0, 0, 0, 0];
+    let shown =
+        "polling read, address width 10, address 0x123, first operation 0, operation count 1";
+    as_by_hand(&example(), header, &[&call, &operation], shown);
+    assert_eq!(example().calls()[0].address(), Address::Ten(0x123));
 }
 
 #[test]

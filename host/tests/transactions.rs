@@ -2,9 +2,9 @@
 
 mod common;
 
-use common::{Draw, READY, Ran, run_with, settings, short_sequences};
+use common::{Draw, READY, Ran, as_by_hand, run_with, settings, short_sequences};
 use vandhukril::Operation::{Read, Write};
-use vandhukril::{BusList, Kind, Operation, Refusal, Report, Settings, answer, explain, show};
+use vandhukril::{BusList, Kind, Operation, Refusal, Report, Settings, answer, explain};
 
 fn transaction(operations: &[Operation]) -> BusList {
     let mut list = BusList::new(settings());
@@ -99,26 +99,21 @@ fn a_transaction_as_bytes_and_back() {
         ..settings()
     });
     list.blocking_transaction(0x50, [Write(vec![0]), Read(0), Write(vec![0x1f]), Read(1)]);
-    let header: [u32; 16] = [
+    let header = [
         1, 64, 4, 72, 2, 104, 36_000_000, 72_000_000, 0, 100_000, 1000, 3, 1000, 1000, 0, 0,
     ];
-    let mut bytes: Vec<u8> = header.into_iter().flat_map(u32::to_le_bytes).collect();
-    bytes.extend([7, 7, 0x50, 0, 0, 0, 4, 0]);
-    bytes.extend([0, 0, 1, 0, 0, 0, 0, 0]);
-    bytes.extend([1, 0, 0, 0, 0, 0, 0, 0]);
-    bytes.extend([0, 0, 1, 0, 1, 0, 0, 0]);
-    bytes.extend([1, 0, 1, 0, 0, 0, 0, 0]);
-    bytes.extend([0, 0x1f]);
-    assert_eq!(list.to_bytes().as_ref(), Ok(&bytes));
-
-    let read = BusList::from_bytes(&bytes).expect("it is of the form");
-    assert_eq!(read, list);
-    assert_eq!(read.calls()[0].kind(), Kind::BlockingTransaction);
-    assert!(show(&bytes).contains(
-        "\n64: call 0: blocking transaction, address width 7, address 0x50, \
-         first operation 0, operation count 4\n"
-    ));
-    assert_eq!(explain(&bytes, 1), Ok(vec![]));
+    let rest: [&[u8]; 6] = [
+        &[7, 7, 0x50, 0, 0, 0, 4, 0],
+        &[0, 0, 1, 0, 0, 0, 0, 0],
+        &[1, 0, 0, 0, 0, 0, 0, 0],
+        &[0, 0, 1, 0, 1, 0, 0, 0],
+        &[1, 0, 1, 0, 0, 0, 0, 0],
+        &[0, 0x1f],
+    ];
+    let shown = "blocking transaction, address width 7, address 0x50, \
+                 first operation 0, operation count 4";
+    as_by_hand(&list, header, &rest, shown);
+    assert_eq!(list.calls()[0].kind(), Kind::BlockingTransaction);
 }
 
 /// Two reads of one byte, with an empty write between them, are the read of two bytes that the C example makes.

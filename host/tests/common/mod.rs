@@ -2,8 +2,8 @@
 #![allow(dead_code)]
 
 use vandhukril::{
-    ACCESS_WORDS, Address, BusList, Cause, Counts, Error, Hertz, Micros, Mode, Operation, Refusal,
-    Settings, accesses, run,
+    ACCESS_WORDS, Address, BusList, Cause, Counts, Error, Hertz, ListSettings, Micros, Mode,
+    Operation, Refusal, Settings, accesses, explain, run, show,
 };
 
 /// What both buffers are full of before a run, to see what the run leaves as it was.
@@ -190,6 +190,24 @@ pub fn every_kind() -> BusList {
             [Write(vec![14]), Read(0), Write(vec![15]), Read(1), Read(1)],
         );
     list
+}
+
+/// Holds a list to bytes written down by hand, there and back: the words of its header, then its rows and its data. Its
+/// first call is shown in these words, and nothing in it is doubtful.
+pub fn as_by_hand<S: ListSettings>(
+    list: &BusList<S>,
+    header: [u32; 16],
+    rest: &[&[u8]],
+    first_call: &str,
+) {
+    let words = header.into_iter().flat_map(u32::to_le_bytes);
+    let bytes: Vec<u8> = words.chain(rest.concat()).collect();
+    assert_eq!(list.to_bytes().as_ref(), Ok(&bytes));
+    let read = BusList::from_bytes(&bytes).expect("it is of the form");
+    assert_eq!(read.calls(), list.calls());
+    assert_eq!(read.to_string(), list.to_string());
+    assert!(show(&bytes).contains(&format!("\n64: call 0: {first_call}\n")));
+    assert_eq!(explain(&bytes, list.received_length()), Ok(vec![]));
 }
 
 /// Every sequence of up to so many operations of 0 to 2 bytes. Each byte that is written tells its place.
