@@ -44,7 +44,7 @@ enum vandhukril_answer {
     VANDHUKRIL_REFUSED_LIMIT = 21,           /* over 32,768 bytes, 256 calls, 1,024 operations or 4,096 bytes in one */
     VANDHUKRIL_REFUSED_FREQUENCY = 22,       /* the frequency is 0 or above 400,000 Hz */
     VANDHUKRIL_REFUSED_TIMEOUT = 23,         /* a timeout is too long for 32 bits of cycles */
-    VANDHUKRIL_REFUSED_ADDRESS = 24,         /* an address has ten bits, or is above 127 */
+    VANDHUKRIL_REFUSED_ADDRESS = 24,         /* seven-bit above 127, ten-bit above 1023, or a ten-bit blocking call */
     VANDHUKRIL_REFUSED_EMPTY_BLOCKING = 25,  /* a blocking write or a blocking read has length 0 */
     VANDHUKRIL_REFUSED_RECEIVED_BUFFER = 26, /* all reads together are longer than the received buffer */
     VANDHUKRIL_REFUSED_WRITE_AFTER_READ = 27 /* a blocking transaction has a read, then a write, empty ones left out */

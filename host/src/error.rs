@@ -71,7 +71,7 @@ pub enum Refusal {
     Frequency,
     /// 23: a timeout is too long for 32 bits of cycles.
     Timeout,
-    /// 24: an address is ten-bit, or seven-bit and above 127.
+    /// 24: an address is seven-bit and above 127, or ten-bit and above 1023, or ten-bit in a blocking call.
     Address,
     /// 25: a blocking write or a blocking read has length 0.
     EmptyBlocking,
@@ -192,8 +192,8 @@ impl NoAcknowledge {
     const fn advice(self) -> &'static str {
         match self {
             NoAcknowledge::Address => {
-                "Check that the call has the device's seven-bit address, and that the device is \
-                 connected and ready. A polling write also ends this way when the device takes \
+                "Check that the call has the device's address, with its width, and that the device \
+                 is connected and ready. A polling write also ends this way when the device takes \
                  no more bytes."
             }
             NoAcknowledge::Data => {
@@ -232,7 +232,9 @@ impl Refusal {
             }
             Refusal::Frequency => "frequency 0 or above 400,000",
             Refusal::Timeout => "a timeout times whole sysclk MHz above 4,294,967,295",
-            Refusal::Address => "ten-bit address, or seven-bit above 127",
+            Refusal::Address => {
+                "a seven-bit address above 127, a ten-bit one above 1023, or a ten-bit blocking call"
+            }
             Refusal::EmptyBlocking => {
                 "blocking write (kind 4) or blocking read (kind 5) of length 0"
             }
@@ -262,8 +264,8 @@ impl Refusal {
                  megahertz of sysclk must not pass 4,294,967,295 cycles."
             }
             Refusal::Address => {
-                "Give every call a seven-bit address from 0 to 127, as it is before it is shifted \
-                 to make room for the direction bit."
+                "Give the call a seven-bit address from 0 to 127, as it is before it is shifted to make \
+                 room for the direction bit. A polling call may have a ten-bit one, from 0 to 1023."
             }
             Refusal::EmptyBlocking => {
                 "Take the empty blocking write or read out of the list, or give it at least one byte."

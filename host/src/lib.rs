@@ -18,7 +18,7 @@
 //! # Example
 //!
 //! A write of one byte to address 50 hexadecimal, then a read of two bytes. The readings stand for
-//! the bus; here every register always shows C7 hexadecimal, that is, every flag the engine waits for.
+//! the bus; here every register always shows CF hexadecimal, that is, every flag the engine waits for.
 //!
 //! ```
 //! use vandhukril::{ACCESS_WORDS, BusList, Hertz, Mode, PollingSettings, accesses};
@@ -30,13 +30,13 @@
 //! });
 //! list.write(0x50, &[0x2a]).read(0x50, 2);
 //!
-//! let readings = [0xc7; 100];
+//! let readings = [0xcf; 100];
 //! let mut received = vec![0; list.received_length()];
 //! let mut record = [0; 200];
 //! let counts = vandhukril::run(&list.to_bytes()?, &readings, &mut received, &mut record)?;
 //!
 //! assert_eq!(counts.calls, 2);
-//! assert_eq!(received[..counts.received], [0xc7, 0xc7]);
+//! assert_eq!(received[..counts.received], [0xcf, 0xcf]);
 //! for access in accesses(&record[..ACCESS_WORDS * counts.accesses]) {
 //!     println!("{access}");
 //! }

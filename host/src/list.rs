@@ -95,8 +95,26 @@ impl fmt::Display for Kind {
 
 /// The address of a call, before it is shifted to make room for the direction bit.
 ///
-/// A list can hold more addresses than the engine accepts: it refuses ten-bit ones, and seven-bit
-/// ones above 127.
+/// A plain `u8` is a seven-bit address. Ten-bit ones are for polling calls:
+///
+/// ```
+/// use vandhukril::{Address, BusList, Hertz, Mode, PollingSettings, explain};
+///
+/// let mut list = BusList::new(PollingSettings {
+///     pclk1: Hertz(36_000_000),
+///     mode: Mode::Standard,
+///     frequency: Hertz(100_000),
+/// });
+/// list.write(0x50, &[0x2a]).write_read(Address::Ten(0x123), &[0x10], 4);
+///
+/// let bytes = list.to_bytes()?;
+/// assert_eq!(bytes[72..76], [2, 10, 0x23, 0x01]); // kind, width, address
+/// assert!(explain(&bytes, list.received_length()).is_ok());
+/// # Ok::<(), Box<dyn std::error::Error>>(())
+/// ```
+///
+/// A list can hold more addresses than the engine accepts: it refuses seven-bit ones above 127, ten-bit
+/// ones above 1023, and ten-bit ones in blocking calls.
 #[derive(Clone, Copy, Debug, PartialEq, Eq, Hash)]
 pub enum Address {
     /// Address width 7.
@@ -283,7 +301,8 @@ impl<S: ListSettings> BusList<S> {
     }
 }
 
-/// What only a list with all eight settings has: blocking calls, and calls of any kind.
+/// What only a list with all eight settings has: blocking calls, and calls of any kind. The engine refuses
+/// a list with a ten-bit address in a blocking call.
 impl BusList<Settings> {
     /// Adds a blocking write (kind 4). The engine refuses a list with an empty one.
     pub fn blocking_write(&mut self, address: impl Into<Address>, bytes: &[u8]) -> &mut Self {

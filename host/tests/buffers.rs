@@ -5,7 +5,11 @@ mod common;
 use std::thread;
 
 use common::{OLD_BYTE, OLD_WORD, READY, Ran, every_kind, run_with, settings};
-use vandhukril::{ACCESS_WORDS, BusList, Hertz, Micros, Mode, Settings, run};
+use vandhukril::{ACCESS_WORDS, Address, BusList, Hertz, Micros, Mode, Settings, run};
+
+/// More than the list of every kind needs.
+const READINGS: usize = 500;
+const WORDS: usize = 1500;
 
 /// A list with readings to run it on.
 struct Case {
@@ -28,6 +32,15 @@ fn cases() -> Vec<Case> {
     let mut no_data = vec![READY; 60];
     // SR1, where the second byte of the read is waited for: AF.
     no_data[22] = READY | 0x400;
+
+    let mut no_header = BusList::new(settings());
+    no_header
+        .write(0x50, &[1])
+        .read(Address::Ten(0x123), 3)
+        .write(0x50, &[2]);
+    let mut no_ten_bit_device = vec![READY; 60];
+    // SR1, where ADD10 is waited for: AF.
+    no_ten_bit_device[17] = READY | 0x400;
 
     let mut empty_read = BusList::new(settings());
     empty_read
@@ -65,14 +78,15 @@ fn cases() -> Vec<Case> {
             0,
         ),
         case("no calls", BusList::new(settings()), vec![0x1234_5678], 0),
-        case("every kind", every_kind(), vec![READY; 400], 0),
+        case("every kind", every_kind(), vec![READY; READINGS], 0),
         case(
             "every kind, Fast",
             fast(every_kind()),
-            vec![0xffff_00c7; 400],
+            vec![0xffff_0000 | READY; READINGS],
             0,
         ),
         case("not acknowledged", not_acknowledged, no_data, 3),
+        case("no header", no_header, no_ten_bit_device, 2),
         case("empty read", empty_read, vec![READY; 100], 1),
         case("timeout", timeout, late, 5),
         case("too few readings", too_few, vec![READY; 140], 9),
@@ -229,23 +243,23 @@ fn slices_from_the_middle_of_larger_buffers() {
     let list = every_kind();
     let bytes = list.to_bytes().expect("it fits");
     let needed = list.received_length();
-    let apart = run_with(&bytes, &[READY; 400], needed, 1000);
+    let apart = run_with(&bytes, &[READY; READINGS], needed, WORDS);
     let (record, received) = apart.written();
     // Bytes may start at any place; nothing outside the slices may change.
     for shift in 0..16 {
         let shifted: Vec<u8> = vec![0xff; shift].into_iter().chain(bytes.clone()).collect();
         let mut bytes_around = [OLD_BYTE; 100];
-        let mut words_around = [OLD_WORD; 1000];
+        let mut words_around = [OLD_WORD; WORDS];
         let end = run(
             &shifted[shift..],
-            &[READY; 400],
+            &[READY; READINGS],
             &mut bytes_around[shift..shift + needed],
             &mut words_around[shift..shift + record.len()],
         );
         assert_eq!(end, apart.end);
         let mut expected_bytes = [OLD_BYTE; 100];
         expected_bytes[shift..shift + needed].copy_from_slice(received);
-        let mut expected_words = [OLD_WORD; 1000];
+        let mut expected_words = [OLD_WORD; WORDS];
         expected_words[shift..shift + record.len()].copy_from_slice(record);
         assert_eq!(bytes_around, expected_bytes);
         assert_eq!(words_around, expected_words);
@@ -257,14 +271,14 @@ fn slices_from_the_middle_of_larger_buffers() {
 fn many_threads_at_once() {
     let list = every_kind();
     let bytes = list.to_bytes().expect("it fits");
-    let readings = [READY; 400];
-    let alone = run_with(&bytes, &readings, list.received_length(), 1000);
+    let readings = [READY; READINGS];
+    let alone = run_with(&bytes, &readings, list.received_length(), WORDS);
     thread::scope(|scope| {
         for _ in 0..4 {
             scope.spawn(|| {
                 for _ in 0..50 {
                     assert_eq!(
-                        run_with(&bytes, &readings, list.received_length(), 1000),
+                        run_with(&bytes, &readings, list.received_length(), WORDS),
                         alone
                     );
                 }
@@ -278,15 +292,15 @@ fn an_error_flag_at_every_reading() {
     let list = every_kind();
     let bytes = list.to_bytes().expect("it fits");
     let received_length = list.received_length();
-    let well = run_with(&bytes, &[READY; 400], received_length, 1000);
+    let well = run_with(&bytes, &[READY; READINGS], received_length, WORDS);
     assert_eq!(well.answer(), 0);
     let mut seen = [0; 11];
     for place in 0..well.counts().readings {
         // BERR, ARLO, AF, OVR, PECERR, TIMEOUT
         for flag in [0x100, 0x200, 0x400, 0x800, 0x1000, 0x4000] {
-            let mut readings = [READY; 400];
+            let mut readings = [READY; READINGS];
             readings[place] |= flag;
-            let ran = run_with(&bytes, &readings, received_length, 1000);
+            let ran = run_with(&bytes, &readings, received_length, WORDS);
             seen[ran.answer() as usize] += 1;
             // Up to that reading the run is the one without the flag.
             let (record, _) = ran.written();

@@ -84,7 +84,7 @@ fn cases(program: &str, numbers: usize) -> Vec<Case> {
 #[test]
 fn every_hand_written_refusal() {
     let all = cases("refusals", 2);
-    assert!(all.len() >= 207, "{} cases", all.len());
+    assert!(all.len() >= 250, "{} cases", all.len());
     for case in all {
         let [cause, room] = case.head[..] else {
             panic!("{}: two numbers beside the name", case.name);
@@ -100,7 +100,7 @@ fn every_hand_written_refusal() {
 #[test]
 fn every_hand_written_run() {
     let all = cases("runs", 2);
-    assert!(all.len() >= 52, "{} cases", all.len());
+    assert!(all.len() >= 80, "{} cases", all.len());
     for case in all {
         let [room, words] = case.head[..] else {
             panic!("{}: two numbers beside the name", case.name);

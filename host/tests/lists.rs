@@ -26,6 +26,7 @@ fn drawn_address(draw: &mut Draw) -> Address {
     match draw.below(40) {
         0 => Address::Ten(draw.next() as u16),
         1 => Address::Seven(draw.next() as u16),
+        2..6 => Address::Ten(draw.below(1024) as u16),
         _ => Address::Seven(draw.below(128) as u16),
     }
 }
@@ -116,7 +117,8 @@ fn drawn_lists_go_round() {
                 accepted += 1;
                 // With every flag set, a run stops at an empty read that is warned of and nowhere else.
                 let warnings = explain(&bytes, list.received_length()).expect("it is accepted");
-                let in_operations = warnings.iter().any(|warning| warning.at > 64);
+                let operations = 64 + 8 * list.calls().len();
+                let in_operations = warnings.iter().any(|warning| warning.at >= operations);
                 let ran = run_with(&bytes, &[READY; 1000], list.received_length(), 4000);
                 assert_eq!(ran.answer(), u32::from(in_operations), "{list}");
             }

@@ -214,22 +214,53 @@ fn cause_24_for_each_address() {
         |address: Address| bytes_of(BusList::new(settings()).write(1, &[]).write(address, &[1]));
     accepted(&to(0.into()), 0);
     accepted(&to(127.into()), 0);
-    refused(
-        &to(128.into()),
-        0,
-        Refusal::Address,
-        74,
-        "call 1: address is 128, but must be 0 to 127",
-    );
-    refused(
-        &to(Address::Seven(65_535)),
-        0,
-        Refusal::Address,
-        74,
-        "call 1: address is 65535, but must be 0 to 127",
-    );
-    let ten = "call 1: address is ten-bit, but must be seven-bit";
-    refused(&to(Address::Ten(5)), 0, Refusal::Address, 73, ten);
+    for address in [128, 160, 1023, 65_535] {
+        let what = format!("call 1: address is {address}, but must be 0 to 127 with a width of 7");
+        let bytes = to(Address::Seven(address));
+        refused(&bytes, 0, Refusal::Address, 74, &what);
+    }
+    for address in [0, 127, 128, 256, 1023] {
+        accepted(&to(Address::Ten(address)), 0);
+    }
+    for address in [1024, 1104, 32_768, 65_535] {
+        let what =
+            format!("call 1: address is {address}, but must be 0 to 1023 with a width of 10");
+        let bytes = to(Address::Ten(address));
+        refused(&bytes, 0, Refusal::Address, 74, &what);
+    }
+}
+
+/// Polling calls take a ten-bit address, idle ones too. No blocking call does, and idle ones no more.
+#[test]
+fn cause_24_for_a_ten_bit_blocking_call() {
+    let ten = Address::Ten(0x123);
+    let mut list = BusList::new(settings());
+    list.write(ten, &[1])
+        .read(ten, 1)
+        .write_read(ten, &[2], 1)
+        .transaction(ten, [])
+        .blocking_write(0x23, &[3]);
+    accepted(&bytes_of(&list), 2);
+
+    let mut blocking = BusList::new(settings());
+    blocking
+        .blocking_write(ten, &[1])
+        .blocking_read(ten, 1)
+        .blocking_write_read(ten, &[1], 1)
+        .blocking_write_read(ten, &[], 0)
+        .blocking_transaction(ten, [Write(vec![1])])
+        .blocking_transaction(ten, [])
+        // Its width is named, not its address.
+        .blocking_read(Address::Ten(1024), 1);
+    for call in blocking.calls() {
+        let mut list = BusList::new(settings());
+        list.write(ten, &[1]).add(call.clone());
+        let what = format!(
+            "call 1: address width is 10, but must be 7 in a {}",
+            call.kind()
+        );
+        refused(&bytes_of(&list), 1, Refusal::Address, 73, &what);
+    }
 }
 
 #[test]
@@ -237,9 +268,9 @@ fn a_fault_says_what_to_do() {
     let to_a0 = bytes_of(BusList::new(settings()).write(0xa0, &[1]));
     assert_eq!(
         explain(&to_a0, 0).unwrap_err().to_string(),
-        "byte 66: call 0: address is 160, but must be 0 to 127. \
-         Give every call a seven-bit address from 0 to 127, as it is before it is shifted to make \
-         room for the direction bit."
+        "byte 66: call 0: address is 160, but must be 0 to 127 with a width of 7. \
+         Give the call a seven-bit address from 0 to 127, as it is before it is shifted to make \
+         room for the direction bit. A polling call may have a ten-bit one, from 0 to 1023."
     );
     assert_eq!(
         explain(&changed(32, 3), 2).unwrap_err().to_string(),

@@ -2,13 +2,9 @@
 
 mod common;
 
-use common::{Draw, READY, Ran, run_with, settings};
+use common::{Draw, READY, Ran, as_by_hand, run_with, settings, short_sequences};
 use vandhukril::Operation::{Read, Write};
-use vandhukril::{
-    BusList, Kind, Operation, Refusal, Report, Settings, accesses, answer, explain, show,
-};
-
-const WRITE_DR: u32 = 16;
+use vandhukril::{BusList, Kind, Operation, Refusal, Report, Settings, answer, explain};
 
 fn transaction(operations: &[Operation]) -> BusList {
     let mut list = BusList::new(settings());
@@ -50,24 +46,6 @@ fn plain(left: &[Operation]) -> Option<BusList> {
     Some(list)
 }
 
-/// Every sequence of up to four operations of 0 to 2 bytes. Each byte that is written tells its place.
-fn short_sequences() -> Vec<Vec<Operation>> {
-    let mut all = vec![Vec::new()];
-    let mut shorter = all.clone();
-    for place in 0..4 {
-        let bytes = [2 * place + 1, 2 * place + 2];
-        let next = (0..3_u8).flat_map(|n| [Write(bytes[..n.into()].to_vec()), Read(n.into())]);
-        let next: Vec<Operation> = next.collect();
-        let longer = shorter.iter().flat_map(|before| {
-            next.iter()
-                .map(|last| before.iter().chain([last]).cloned().collect())
-        });
-        shorter = longer.collect();
-        all.extend(shorter.iter().cloned());
-    }
-    all
-}
-
 /// Readings with every flag set, but now and then one that shows none, or an error flag.
 fn drawn_readings(draw: &mut Draw) -> Vec<u32> {
     let reading = |_| match draw.below(40) {
@@ -82,7 +60,7 @@ fn drawn_readings(draw: &mut Draw) -> Vec<u32> {
 fn every_short_transaction_is_done_in_its_joined_form() {
     let mut draw = Draw(17);
     let (mut idle, mut done, mut refused, mut stopped) = (0, 0, 0, 0);
-    for operations in short_sequences() {
+    for operations in short_sequences(4) {
         let list = transaction(&operations);
         let left = joined(&operations);
         let Some(plain) = plain(&left) else {
@@ -121,26 +99,21 @@ fn a_transaction_as_bytes_and_back() {
         ..settings()
     });
     list.blocking_transaction(0x50, [Write(vec![0]), Read(0), Write(vec![0x1f]), Read(1)]);
-    let header: [u32; 16] = [
+    let header = [
         1, 64, 4, 72, 2, 104, 36_000_000, 72_000_000, 0, 100_000, 1000, 3, 1000, 1000, 0, 0,
     ];
-    let mut bytes: Vec<u8> = header.into_iter().flat_map(u32::to_le_bytes).collect();
-    bytes.extend([7, 7, 0x50, 0, 0, 0, 4, 0]);
-    bytes.extend([0, 0, 1, 0, 0, 0, 0, 0]);
-    bytes.extend([1, 0, 0, 0, 0, 0, 0, 0]);
-    bytes.extend([0, 0, 1, 0, 1, 0, 0, 0]);
-    bytes.extend([1, 0, 1, 0, 0, 0, 0, 0]);
-    bytes.extend([0, 0x1f]);
-    assert_eq!(list.to_bytes().as_ref(), Ok(&bytes));
-
-    let read = BusList::from_bytes(&bytes).expect("it is of the form");
-    assert_eq!(read, list);
-    assert_eq!(read.calls()[0].kind(), Kind::BlockingTransaction);
-    assert!(show(&bytes).contains(
-        "\n64: call 0: blocking transaction, address width 7, address 0x50, \
-         first operation 0, operation count 4\n"
-    ));
-    assert_eq!(explain(&bytes, 1), Ok(vec![]));
+    let rest: [&[u8]; 6] = [
+        &[7, 7, 0x50, 0, 0, 0, 4, 0],
+        &[0, 0, 1, 0, 0, 0, 0, 0],
+        &[1, 0, 0, 0, 0, 0, 0, 0],
+        &[0, 0, 1, 0, 1, 0, 0, 0],
+        &[1, 0, 1, 0, 0, 0, 0, 0],
+        &[0, 0x1f],
+    ];
+    let shown = "blocking transaction, address width 7, address 0x50, \
+                 first operation 0, operation count 4";
+    as_by_hand(&list, header, &rest, shown);
+    assert_eq!(list.calls()[0].kind(), Kind::BlockingTransaction);
 }
 
 /// Two reads of one byte, with an empty write between them, are the read of two bytes that the C example makes.
@@ -201,17 +174,13 @@ fn a_joined_write_may_be_longer_than_any_one_listed() {
     let counts = ran.counts();
     assert_eq!(counts.readings, 1 + 2 * data.len() + 11);
     assert_eq!(counts.accesses, 5 + 3 * data.len() + 15);
-    let sent: Vec<u32> = accesses(ran.written().0)
-        .filter(|access| access.code == WRITE_DR)
-        .map(|access| access.value)
-        .collect();
     let expected: Vec<u32> = [0xa0]
         .iter()
         .chain(&data)
         .map(|&byte| byte.into())
         .collect();
     assert!(
-        sent == expected,
+        ran.sent() == expected,
         "the address once, then every byte in order"
     );
 }

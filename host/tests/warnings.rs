@@ -5,7 +5,8 @@ mod common;
 use common::{READY, Ran, every_kind, run_with, settings};
 use vandhukril::Operation::{Read, Write};
 use vandhukril::{
-    BusList, Hertz, ListSettings, Micros, PollingSettings, Settings, Warning, accesses, explain,
+    Address, BusList, Hertz, ListSettings, Micros, PollingSettings, Settings, Warning, accesses,
+    explain,
 };
 
 // Codes in a record, and bits of CR1.
@@ -261,4 +262,42 @@ fn a_polling_call_that_ends_in_an_empty_read_answers_overrun() {
     assert_eq!(places(&list), [64 + 3 * 8 + 5 * 8 + 2]);
     let ran = run_on(&list, &[READY; 100]);
     assert_eq!((ran.answer(), ran.counts().calls), (1, 2));
+}
+
+/// The first byte of a ten-bit address is 11110 in binary, its two high bits, and the direction.
+#[test]
+fn a_seven_bit_address_that_is_a_header() {
+    for address in 0..128 {
+        let mut list = BusList::new(settings());
+        list.write(address, &[1]);
+        let first = run_on(&list, &[READY; 100]).sent()[0];
+        let warned = if first & 0xf8 == 0xf0 {
+            vec![66]
+        } else {
+            vec![]
+        };
+        assert_eq!(places(&list), warned, "{list}");
+    }
+
+    let mut list = BusList::new(settings());
+    list.blocking_read(0x7b, 1)
+        .transaction(0x78, [])
+        .blocking_write_read(0x79, &[], 0)
+        .write(Address::Ten(0x78), &[1])
+        .transaction(0x78, [Read(0)]);
+    assert_eq!(
+        texts(&list),
+        [
+            "byte 66: call 0 (blocking read) goes to the seven-bit address 123, but on the bus that \
+             is the header of the ten-bit addresses 768 to 1023. \
+             For a device with a ten-bit address give that address, with a width of 10, to a polling \
+             call.",
+            "byte 98: call 4 (polling transaction) goes to the seven-bit address 120, but on the bus \
+             that is the header of the ten-bit addresses 0 to 255. \
+             For a device with a ten-bit address give that address, with a width of 10, to a polling \
+             call.",
+            "byte 138: call 4 (polling transaction) ends in a read of length 0, so the run stops \
+             there with Overrun (1). Read at least one byte there, or take the read out.",
+        ]
+    );
 }

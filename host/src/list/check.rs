@@ -71,7 +71,8 @@ fn must(
 ///
 /// For a list that the engine accepts these are warnings: what its author can hardly have meant. A
 /// blocking call with 0 start retries sends no START, one with a timeout that comes to 0 cycles waits
-/// for nothing, and a polling call that ends in a read of length 0 answers Overrun.
+/// for nothing, a seven-bit address from 120 to 123 is the header of ten-bit ones, and a polling call
+/// that ends in a read of length 0 answers Overrun.
 ///
 /// # Errors
 ///
@@ -104,7 +105,7 @@ fn must(
 /// let fault = explain(&bytes, 0).unwrap_err();
 /// assert_eq!(fault.refusal, Refusal::Address);
 /// assert_eq!(fault.at, 74);
-/// assert_eq!(fault.what, "call 1: address is 160, but must be 0 to 127");
+/// assert_eq!(fault.what, "call 1: address is 160, but must be 0 to 127 with a width of 7");
 /// # Ok::<(), Box<dyn std::error::Error>>(())
 /// ```
 pub fn explain(list: &[u8], received_length: usize) -> Result<Vec<Warning>, Fault> {
@@ -371,15 +372,30 @@ fn timeouts(l: Layout) -> Result<(), Fault> {
 /// Cause 24.
 fn addresses(l: Layout) -> Result<(), Fault> {
     for (number, row) in l.calls().enumerate() {
-        must(row.width == 7, Refusal::Address, row.at + 1, || {
-            format!("call {number}: address is ten-bit, but must be seven-bit")
+        address(&row).map_err(|(at, what)| Fault {
+            refusal: Refusal::Address,
+            at: row.at + at,
+            what: format!("call {number}: {what}"),
         })?;
-        must(row.address <= 127, Refusal::Address, row.at + 2, || {
-            format!(
-                "call {number}: address is {}, but must be 0 to 127",
-                row.address
-            )
-        })?;
+    }
+    Ok(())
+}
+
+/// Whether a call has an address that its engine takes. If not: the byte of its row, and what is wrong.
+fn address(row: &CallRow) -> Result<(), (usize, String)> {
+    let (width, address) = (row.width, row.address);
+    if let Some(kind) = Kind::from_number(row.kind)
+        && kind.is_blocking()
+        && width == 10
+    {
+        let what = format!("address width is 10, but must be 7 in a {kind}");
+        return Err((1, what));
+    }
+    let highest = if width == 10 { 1023 } else { 127 };
+    if address > highest {
+        let what =
+            format!("address is {address}, but must be 0 to {highest} with a width of {width}");
+        return Err((2, what));
     }
     Ok(())
 }

@@ -92,8 +92,10 @@ fn lines(l: Layout) -> impl Iterator<Item = (usize, usize, String)> {
 fn call(row: &CallRow) -> String {
     let kind = Kind::from_number(row.kind)
         .map_or_else(|| format!("kind {}", row.kind), |kind| kind.to_string());
+    // Two digits of a seven-bit address, three of a ten-bit one.
+    let digits = if row.width == 10 { 5 } else { 4 };
     format!(
-        "{kind}, address width {}, address {:#04x}, first operation {}, operation count {}",
+        "{kind}, address width {}, address {:#0digits$x}, first operation {}, operation count {}",
         row.width, row.address, row.first, row.count
     )
 }
@@ -124,6 +126,24 @@ fn operation(l: Layout, row: &OperationRow) -> String {
 #[cfg(test)]
 mod tests {
     use super::*;
+
+    #[test]
+    fn an_address_has_the_digits_of_its_width() {
+        let text = |width, address| {
+            call(&CallRow {
+                at: 64,
+                kind: 3,
+                width,
+                address,
+                first: 0,
+                count: 0,
+            })
+        };
+        let seven = "polling transaction, address width 7, address 0x05, ";
+        assert!(text(7, 5).starts_with(seven));
+        let ten = "polling transaction, address width 10, address 0x005, ";
+        assert!(text(10, 5).starts_with(ten));
+    }
 
     #[test]
     fn no_bytes_are_shown_as_missing() {

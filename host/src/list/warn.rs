@@ -3,7 +3,7 @@
 use std::fmt;
 
 use super::Kind;
-use super::layout::{self, Layout};
+use super::layout::{self, CallRow, Layout};
 use crate::settings::Hertz;
 
 /// Something in an accepted list that its author can hardly have meant.
@@ -34,6 +34,7 @@ pub(super) fn warnings(l: Layout) -> Vec<Warning> {
         let so = format!("{call} times out unless every later wait is over at the first look");
         all.extend(timeout(l, layout::DATA_TIMEOUT, "data", &so));
     }
+    all.extend(header_addresses(l));
     all.extend(empty_reads(l));
     all
 }
@@ -43,14 +44,21 @@ fn name(number: usize, kind: Kind) -> String {
     format!("call {number} ({kind})")
 }
 
-/// The name of the first blocking call that makes accesses. One with empty operations only makes none.
+/// Whether a call makes no access and ends well. A blocking one with empty operations only makes none.
+fn is_idle(l: Layout, row: &CallRow, kind: Kind) -> bool {
+    let mut operations = l.operations_of(row);
+    if kind.is_blocking() {
+        operations.all(|operation| operation.length == 0)
+    } else {
+        operations.next().is_none()
+    }
+}
+
+/// The name of the first blocking call that makes accesses.
 fn first_blocking(l: Layout) -> Option<String> {
     l.calls().enumerate().find_map(|(number, row)| {
         let kind = Kind::from_number(row.kind).filter(|kind| kind.is_blocking())?;
-        let mut operations = l.operations_of(&row);
-        operations
-            .any(|operation| operation.length > 0)
-            .then(|| name(number, kind))
+        (!is_idle(l, &row, kind)).then(|| name(number, kind))
     })
 }
 
@@ -84,6 +92,29 @@ fn timeout(l: Layout, at: usize, name: &str, so: &str) -> Option<Warning> {
         at,
         what: format!("{name} timeout is 0 µs, so {so}"),
         advice: "Set it to the longest time that such a wait may take, in microseconds.",
+    })
+}
+
+/// UM10204 keeps the seven-bit addresses 11110XX, in binary, for the headers of ten-bit ones.
+fn header_addresses(l: Layout) -> impl Iterator<Item = Warning> {
+    l.calls().enumerate().filter_map(move |(number, row)| {
+        let kind = Kind::from_number(row.kind)?;
+        let address = row.address;
+        let is_header = row.width == 7 && (120..=123).contains(&address);
+        (is_header && !is_idle(l, &row, kind)).then(|| {
+            let lowest = 256 * (address - 120);
+            Warning {
+                at: row.at + 2,
+                what: format!(
+                    "{} goes to the seven-bit address {address}, but on the bus that is the header \
+                     of the ten-bit addresses {lowest} to {}",
+                    name(number, kind),
+                    lowest + 255
+                ),
+                advice: "For a device with a ten-bit address give that address, with a width of 10, \
+                         to a polling call.",
+            }
+        })
     })
 }
 

@@ -2,7 +2,8 @@
 #![allow(dead_code)]
 
 use vandhukril::{
-    ACCESS_WORDS, BusList, Cause, Counts, Error, Hertz, Micros, Mode, Refusal, Settings, run,
+    ACCESS_WORDS, Address, BusList, Cause, Counts, Error, Hertz, ListSettings, Micros, Mode,
+    Operation, Refusal, Settings, accesses, explain, run, show,
 };
 
 /// What both buffers are full of before a run, to see what the run leaves as it was.
@@ -10,7 +11,7 @@ pub const OLD_BYTE: u8 = 0xa5;
 pub const OLD_WORD: u32 = 0xa5a5_a5a5;
 
 /// A reading with every flag that a run waits for, and none that ends or holds up a call.
-pub const READY: u32 = 0xc7;
+pub const READY: u32 = 0xcf;
 
 /// A run, with both buffers after it.
 #[derive(Clone, Debug, PartialEq, Eq)]
@@ -39,6 +40,14 @@ impl Ran {
             &self.record[..ACCESS_WORDS * counts.accesses],
             &self.received[..counts.received],
         )
+    }
+
+    /// What the run writes to DR: address bytes, and bytes of data.
+    pub fn sent(&self) -> Vec<u32> {
+        accesses(self.written().0)
+            .filter(|access| access.code == 16)
+            .map(|access| access.value)
+            .collect()
     }
 
     /// Holds the run to what follows from its record alone: the counts, the received bytes, the values
@@ -141,7 +150,7 @@ pub fn settings() -> Settings {
     }
 }
 
-/// A list with every kind of call, empty operations and idle calls among them.
+/// A list with every kind of call and both widths of address, empty operations and idle calls among them.
 pub fn every_kind() -> BusList {
     use vandhukril::Operation::{Read, Write};
     let mut list = BusList::new(settings());
@@ -159,6 +168,11 @@ pub fn every_kind() -> BusList {
                 Read(2),
             ],
         )
+        .write(Address::Ten(0x155), &[16])
+        .read(Address::Ten(0x256), 2)
+        .transaction(Address::Ten(0x3ff), [])
+        .write_read(Address::Ten(0), &[17], 1)
+        .transaction(Address::Ten(0x78), [Read(1), Write(vec![18]), Read(1)])
         .blocking_write(0x55, &[6, 7, 8])
         .blocking_read(0x56, 1)
         .blocking_read(0x57, 2)
@@ -176,6 +190,43 @@ pub fn every_kind() -> BusList {
             [Write(vec![14]), Read(0), Write(vec![15]), Read(1), Read(1)],
         );
     list
+}
+
+/// Holds a list to bytes written down by hand, there and back: the words of its header, then its rows and its data. Its
+/// first call is shown in these words, and nothing in it is doubtful.
+pub fn as_by_hand<S: ListSettings>(
+    list: &BusList<S>,
+    header: [u32; 16],
+    rest: &[&[u8]],
+    first_call: &str,
+) {
+    let words = header.into_iter().flat_map(u32::to_le_bytes);
+    let bytes: Vec<u8> = words.chain(rest.concat()).collect();
+    assert_eq!(list.to_bytes().as_ref(), Ok(&bytes));
+    let read = BusList::from_bytes(&bytes).expect("it is of the form");
+    assert_eq!(read.calls(), list.calls());
+    assert_eq!(read.to_string(), list.to_string());
+    assert!(show(&bytes).contains(&format!("\n64: call 0: {first_call}\n")));
+    assert_eq!(explain(&bytes, list.received_length()), Ok(vec![]));
+}
+
+/// Every sequence of up to so many operations of 0 to 2 bytes. Each byte that is written tells its place.
+pub fn short_sequences(longest: u8) -> Vec<Vec<Operation>> {
+    use vandhukril::Operation::{Read, Write};
+    let mut all = vec![Vec::new()];
+    let mut shorter = all.clone();
+    for place in 0..longest {
+        let bytes = [2 * place + 1, 2 * place + 2];
+        let next = (0..3_u8).flat_map(|n| [Write(bytes[..n.into()].to_vec()), Read(n.into())]);
+        let next: Vec<Operation> = next.collect();
+        let longer = shorter.iter().flat_map(|before| {
+            next.iter()
+                .map(|last| before.iter().chain([last]).cloned().collect())
+        });
+        shorter = longer.collect();
+        all.extend(shorter.iter().cloned());
+    }
+    all
 }
 
 /// Numbers that look drawn, the same on every run.
