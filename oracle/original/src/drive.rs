@@ -27,7 +27,7 @@ pub struct Counts {
 }
 
 /// The polling calls that the model does in place of the Rust, and how they address their device.
-pub type Modelled = fn(&Call) -> Option<Prepares>;
+pub type Modelled<'a> = &'a dyn Fn(&Call) -> Option<Prepares>;
 
 /// Ten-bit calls alone: of these the Rust cannot be the judge.
 pub fn ten_bit(call: &Call) -> Option<Prepares> {
@@ -36,7 +36,7 @@ pub fn ten_bit(call: &Call) -> Option<Prepares> {
 
 /// Runs an accepted list on these readings: ten-bit calls by the model, all others by the Rust.
 pub fn run(list: &List, readings: &[u32], rx: &mut [u8], record: &mut [u32]) -> Counts {
-    run_with(ten_bit, list, readings, rx, record)
+    run_with(&ten_bit, list, readings, rx, record)
 }
 
 /// The same, with other calls done by the model, or other prepares.
@@ -55,7 +55,7 @@ pub fn run_with(
 /// Runs an accepted list on readings that `feed` makes as they are asked for.
 pub fn simulate(list: &List, feed: Box<Feed>, rx: &mut [u8], record: &mut [u32]) -> Counts {
     let mut calls = 0;
-    let (ended, usage) = device::simulate(feed, record, || perform(ten_bit, list, rx, &mut calls));
+    let (ended, usage) = device::simulate(feed, record, || perform(&ten_bit, list, rx, &mut calls));
     counts(ended, calls, usage)
 }
 

@@ -15,7 +15,6 @@ use std::process::ExitCode;
 
 use buslist::{List, Plan, PlannedOperation};
 use cases::{accepted, judge, plan, simulated, write_case, Case, Ran, Rng, Style};
-use device::ENTRY_WORDS;
 
 use reduce::{idle, is_blocking, reduced};
 use tally::{Likes, Nears};
@@ -76,7 +75,7 @@ fn near_misses(pairs: u64, seed: u64) -> bool {
     let found = (0..).filter_map(|number| Some((number, near_miss(seed, number)?)));
     for (number, near) in found.take(pairs as usize) {
         let again = judge(&near.second);
-        if again.answer() == 0 && made(&again) == made(&near.ran) {
+        if again.answer() == 0 && again.made() == near.ran.made() {
             println!("near miss {number} of seed {seed}: unlike reduced calls, equal records");
             return keep(&near.first, &near.second);
         }
@@ -139,6 +138,7 @@ fn ending_well(rng: &mut Rng, plan: &Plan) -> Option<(Case, Ran)> {
         start_errors: 0,
         jumps: 0,
         spare_bits: false,
+        apart: false,
     };
     let list = plan.bytes();
     let rx = plan.read_together();
@@ -151,11 +151,6 @@ fn ending_well(rng: &mut Rng, plan: &Plan) -> Option<(Case, Ran)> {
     };
     let ran = judge(&case);
     (ran.answer() == 0).then_some((case, ran))
-}
-
-/// The record: the words of the accesses made.
-fn made(ran: &Ran) -> &[u32] {
-    &ran.record[..ENTRY_WORDS * ran.counts[3] as usize]
 }
 
 fn keep(first: &Case, second: &Case) -> bool {
