@@ -16,6 +16,7 @@ use std::process::ExitCode;
 use buslist::{List, Plan, PlannedOperation};
 use cases::{accepted, judge, plan, simulated, write_case, Case, Ran, Rng, Style};
 
+use near::Class;
 use reduce::{idle, is_blocking, reduced};
 use tally::{Likes, Nears};
 
@@ -79,16 +80,16 @@ fn near_misses(pairs: u64, seed: u64) -> bool {
             println!("near miss {number} of seed {seed}: unlike reduced calls, equal records");
             return keep(&near.first, &near.second);
         }
-        nears.count(near.miss, near.kind, &near.ran, &again);
+        nears.count(near.miss, near.class, &near.ran, &again);
     }
     println!("{nears}");
     enough(&nears.shortfalls())
 }
 
 struct NearMiss {
-    /// What differs, and the kind of the call where it does.
+    /// What differs, and the class of the call where it does.
     miss: usize,
-    kind: u8,
+    class: Class,
     first: Case,
     /// The first's run, which answers 0.
     ran: Ran,
@@ -102,7 +103,7 @@ fn near_miss(seed: u64, number: u64) -> Option<NearMiss> {
     let one = comparable(rng);
     let miss = rng.below(near::MISSES.len());
     let place = rng.below(one.calls.len());
-    let kind = one.calls.get(place)?.kind;
+    let class = Class::of(one.calls.get(place)?);
     let other = near::miss(rng, &one, miss, place)?;
     if other.calls.iter().any(idle) || reduced(&one) == reduced(&other) {
         return None;
@@ -115,7 +116,7 @@ fn near_miss(seed: u64, number: u64) -> Option<NearMiss> {
     };
     Some(NearMiss {
         miss,
-        kind,
+        class,
         first,
         ran,
         second,
