@@ -22,7 +22,7 @@ pub use rng::Rng;
 pub use shrink::shrink;
 pub use sweep::sweep;
 pub use tally::{ended_in, Tally};
-pub use ten::why_out;
+pub use ten::{wait_met, why_out};
 
 /// What a run is given.
 #[derive(Debug, Clone, PartialEq, Eq)]

@@ -76,15 +76,16 @@ const OUT: [(&str, Shape); 4] = [
         call.is_ten_bit() && call.kind < 4 && call.address > highest::TEN_BIT
     }),
     ("ten bits, blocking", |call| {
-        call.is_ten_bit() && call.kind >= 4 && !all_empty(call)
+        call.is_ten_bit() && call.kind >= 4 && !is_idle(call)
     }),
     ("ten bits, blocking and idle", |call| {
-        call.is_ten_bit() && call.kind >= 6 && all_empty(call)
+        call.is_ten_bit() && is_idle(call)
     }),
 ];
 
-fn all_empty(call: &PlannedCall) -> bool {
-    call.operations.iter().all(PlannedOperation::is_empty)
+/// Of blocking calls.
+fn is_idle(call: &PlannedCall) -> bool {
+    call.kind >= 6 && call.operations.iter().all(PlannedOperation::is_empty)
 }
 
 /// Why a list that is refused for cause 24 is: the first of these that one of its calls is.
@@ -201,7 +202,12 @@ impl TenBit {
     }
 }
 
-/// The wait of a prepare that the AF of this run was met at; none where the prepare was over.
+/// The wait of a ten-bit prepare that the AF of this run was met at; none where the prepare was over.
+pub fn wait_met(ran: &Ran) -> Option<&'static str> {
+    wait(ran).map(|wait| WAITS[wait])
+}
+
+/// Its place among the waits.
 fn wait(ran: &Ran) -> Option<usize> {
     let accesses: Vec<&[u32]> = ran.made().chunks_exact(ENTRY_WORDS).collect();
     let is_start = |access: &&[u32]| access[0] == code::WRITE_CR1 && access[1] & START != 0;

@@ -6,7 +6,7 @@ use std::collections::BTreeMap;
 use std::process::ExitCode;
 
 use buslist::List;
-use cases::{ended_in, generate, judge, why_out, Case, Ran};
+use cases::{ended_in, generate, judge, wait_met, why_out, Case, Ran};
 
 /// Cases of this seed that are looked at.
 const LOOKED_AT: u64 = 200_000;
@@ -72,7 +72,11 @@ fn place(case: &Case, ran: &Ran) -> String {
     match ran.answer() {
         0 if list.calls().any(|call| call.is_ten_bit()) => " with ten-bit calls".into(),
         1..=10 => match ended_in(case, ran) {
-            Some(call) => format!(" in a {}-bit call of kind {}", call.width, call.kind),
+            Some(call) => {
+                let wait = wait_met(ran).filter(|_| call.is_ten_bit() && ran.answer() == 2);
+                let at = wait.map_or(String::new(), |wait| format!(" at {wait}"));
+                format!(" in a {}-bit call of kind {}{at}", call.width, call.kind)
+            }
             None => " in the bring-up".into(),
         },
         24 => format!(", {}", why_out(&case.list).expect("a call is out")),
