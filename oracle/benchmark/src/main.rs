@@ -2,6 +2,8 @@
 //!
 //! `benchmark [FILE.svg]`: prints the figures, and draws them where a file is named.
 //!
+//! Ten-bit calls are timed on the engine alone: the Rust does something else there.
+//!
 //! Samples of the two are taken in turn, and medians are printed. Buffers are not cleared in between. The Rust
 //! side is handed the list as accepted, with plain calls for blocking transactions: the time to refuse or accept, and to
 //! join operations, is in the engine's figures alone.

@@ -64,7 +64,11 @@ pub const START: u32 = 1 << 8;
 pub const STOP: u32 = 1 << 9;
 
 /// The headers that a ten-bit address begins with, when the device is to be written to: F0, F2, F4 and F6 hexadecimal.
-/// They are also the address bytes of the seven-bit addresses 120 to 123.
 pub fn is_header(byte: u32) -> bool {
     byte & !6 == 0xF0
+}
+
+/// The seven-bit address, 120 to 123, whose byte is the header of this ten-bit one.
+pub fn seven_bit_of(address: u16) -> u16 {
+    120 + (address >> 8)
 }

@@ -222,10 +222,15 @@ fn lengthen(rng: &mut Rng, plan: &mut Plan) {
     let listed = plan.calls.iter().map(|call| call.operations.len());
     let room = limit::OPERATIONS - listed.sum::<usize>();
     let (kind, operations) = long_call(rng, room);
+    let (width, address) = if kind == 3 && rng.percent(50) {
+        (10, 0x350)
+    } else {
+        (7, 0x50)
+    };
     plan.calls.push(PlannedCall {
         kind,
-        width: 7,
-        address: 0x50,
+        width,
+        address,
         operations,
     });
     let bytes = plan.bytes().len();

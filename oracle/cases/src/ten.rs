@@ -6,7 +6,7 @@ use buslist::PlannedOperation::{self, Read, Write};
 use buslist::{highest, joined, Call, List, PlannedCall};
 use device::{code, ENTRY_WORDS};
 
-use crate::{ended_in, is_header, Case, Ran, START};
+use crate::{ended_in, is_header, seven_bit_of, Case, Ran, START};
 
 type Shape = fn(&PlannedCall) -> bool;
 
@@ -146,8 +146,8 @@ impl TenBit {
             for (count, (_, shape)) in self.shapes.iter_mut().zip(SHAPES) {
                 *count += u64::from(shape(&planned));
             }
-            let same =
-                |other: &Call| !other.is_ten_bit() && other.address == 120 + call.address / 256;
+            let alike = seven_bit_of(call.address);
+            let same = |other: &Call| !other.is_ten_bit() && other.address == alike;
             self.beside += u64::from(ended_well.iter().any(same));
         }
         if let Some(call) = ended_in(case, ran).filter(Call::is_ten_bit) {

@@ -1,4 +1,5 @@
-//! Demand 3 searched over the original Rust: pairs of lists with one settings and no idle call.
+//! Demand 3 searched over the original Rust, and over the model of ten-bit calls: pairs of lists with one settings and no
+//! idle call.
 //!
 //! `pairs [PAIRS] [SEED]`: 100,000 of each kind of pair, of seed 1, unless told otherwise.
 //!

@@ -1,7 +1,7 @@
 //! Lists that nearly have equal reduced calls: one thing differs.
 
 use buslist::{combined, plain_kind, Plan, PlannedCall, PlannedOperation};
-use cases::Rng;
+use cases::{seven_bit_of, Rng};
 
 use crate::reduce::is_blocking;
 
@@ -102,7 +102,7 @@ fn disguise(rng: &mut Rng, plan: &mut Plan, place: usize) -> Option<()> {
 fn as_seven_bit(call: &mut PlannedCall) {
     let low_byte = call.address as u8;
     call.width = 7;
-    call.address = 120 + (call.address >> 8);
+    call.address = seven_bit_of(call.address);
     match call.operations.first_mut() {
         Some(PlannedOperation::Write(bytes)) => bytes.insert(0, low_byte),
         // A first read sends the header, the low byte and a header again: as a write_read does.
@@ -118,7 +118,7 @@ fn as_ten_bit(rng: &mut Rng, call: &mut PlannedCall) -> Option<()> {
     if is_blocking(call) {
         return None;
     }
-    let high_bits = call.address.checked_sub(120).filter(|&bits| bits < 4)?;
+    let high_bits = (0..4).find(|bits| seven_bit_of(bits << 8) == call.address)?;
     let PlannedOperation::Write(bytes) = call.operations.first_mut()? else {
         return None;
     };
