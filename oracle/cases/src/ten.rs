@@ -83,7 +83,7 @@ const OUT: [(&str, Shape); 4] = [
     }),
 ];
 
-/// Of blocking calls.
+/// A blocking call that makes no access.
 fn is_idle(call: &PlannedCall) -> bool {
     call.kind >= 6 && call.operations.iter().all(PlannedOperation::is_empty)
 }
