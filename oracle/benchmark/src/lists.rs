@@ -6,7 +6,7 @@ use device::ENTRY_WORDS;
 /// Bytes of an operation.
 const LENGTH: usize = 16;
 /// A reading that ends every wait at its first poll.
-const READY: u32 = 0xC7;
+const READY: u32 = 0xCF;
 
 pub struct Row {
     pub name: &'static str,
@@ -32,10 +32,28 @@ pub fn rows() -> Vec<Row> {
         ("joined read", vec![with(7, vec![read; 4])]),
         ("joined both", vec![with(7, both)]),
     ];
+    of_each_length(&kinds)
+}
+
+/// Ten-bit calls. The Rust cannot be raced on them: what they must leave is made by the model.
+pub fn ten_bit_rows() -> Vec<Row> {
+    let ten_bit = |kind| PlannedCall {
+        width: 10,
+        address: 0x350,
+        ..call(kind)
+    };
+    of_each_length(&[
+        ("ten-bit write", vec![ten_bit(0)]),
+        ("ten-bit read", vec![ten_bit(1)]),
+        ("ten-bit mixed", [0, 1, 2, 3].map(ten_bit).to_vec()),
+    ])
+}
+
+fn of_each_length(kinds: &[(&'static str, Vec<PlannedCall>)]) -> Vec<Row> {
     let mut rows = Vec::new();
     for (name, kinds) in kinds {
         for calls in [1, 16, 256] {
-            rows.push(row(name, &kinds, calls));
+            rows.push(row(name, kinds, calls));
         }
     }
     rows

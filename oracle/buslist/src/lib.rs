@@ -22,3 +22,9 @@ pub mod limit {
     pub const OPERATIONS: usize = 1_024;
     pub const OPERATION_BYTES: usize = 4_096;
 }
+
+/// The highest address of each width, by cause 24.
+pub mod highest {
+    pub const SEVEN_BIT: u16 = 127;
+    pub const TEN_BIT: u16 = 1_023;
+}

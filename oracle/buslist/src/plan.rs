@@ -55,11 +55,16 @@ impl PlannedOperation {
 }
 
 impl PlannedCall {
+    /// A ten-bit call: its address is sent as a header and a low byte.
+    pub fn is_ten_bit(&self) -> bool {
+        self.width == 10
+    }
+
     /// A call of an accepted list.
     pub fn of(list: &List, call: &Call) -> PlannedCall {
         PlannedCall {
             kind: call.kind,
-            width: 7,
+            width: call.width,
             address: call.address,
             operations: list.operations(call).map(planned).collect(),
         }
@@ -155,5 +160,30 @@ fn planned(operation: Operation) -> PlannedOperation {
     match operation {
         Operation::Write(bytes) => PlannedOperation::Write(bytes.to_vec()),
         Operation::Read(length) => PlannedOperation::Read(length),
+    }
+}
+
+#[cfg(test)]
+mod tests {
+    use super::*;
+
+    /// What is planned is what is read, the widths of addresses included.
+    #[test]
+    fn a_list_read_is_the_plan() {
+        let call = |width, address, operations: &[PlannedOperation]| PlannedCall {
+            kind: 3,
+            width,
+            address,
+            operations: operations.to_vec(),
+        };
+        let plan = Plan {
+            settings: Settings::example(),
+            calls: vec![
+                call(7, 0x78, &[PlannedOperation::Write(vec![5])]),
+                call(10, 0x350, &[PlannedOperation::Read(1)]),
+            ],
+        };
+        let list = plan.bytes();
+        assert_eq!(Plan::of(&List::accepted(&list)), plan);
     }
 }

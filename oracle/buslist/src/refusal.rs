@@ -1,6 +1,6 @@
 //! Why a list is refused: causes 20 to 27, in rising order.
 
-use crate::{limit, ENTRY, HEADER};
+use crate::{highest, limit, ENTRY, HEADER};
 
 /// The first cause from 20 on that applies to a list with a received buffer of `rx` bytes, or 0.
 pub fn refusal(list: &[u8], rx: usize) -> u32 {
@@ -148,7 +148,11 @@ impl Form {
     }
 
     fn an_address_out(&self) -> bool {
-        let out = |call: &CallEntry| call.width == 10 || call.address > 127;
+        let out = |call: &CallEntry| match call.width {
+            // The blocking engine has no ten-bit calls, idle ones among them.
+            10 => call.kind >= 4 || call.address > highest::TEN_BIT.into(),
+            _ => call.address > highest::SEVEN_BIT.into(),
+        };
         self.calls.iter().any(out)
     }
 
@@ -271,6 +275,42 @@ mod tests {
         plan.calls[0].operations = vec![PlannedOperation::Read(9)];
         assert_eq!(refusal(&plan.bytes(), 8), 26);
         assert_eq!(refusal(&plan.bytes(), 9), 0);
+    }
+
+    /// Cause 24 of one call: seven bits end at 127, ten at 1,023, and no blocking kind has ten.
+    #[test]
+    fn addresses() {
+        let (one, none) = (PlannedOperation::Write(vec![1]), vec![]);
+        let both = vec![PlannedOperation::Write(vec![]), PlannedOperation::Read(0)];
+        let tests = [
+            (0, 7, 127, vec![one.clone()], 0),
+            (0, 7, 128, vec![one.clone()], 24),
+            (0, 7, 1_023, vec![one.clone()], 24),
+            (0, 10, 0, vec![one.clone()], 0),
+            (0, 10, 128, vec![one.clone()], 0),
+            (2, 10, 1_023, both.clone(), 0),
+            (0, 10, 1_024, vec![one.clone()], 24),
+            (0, 10, 65_535, vec![one.clone()], 24),
+            (3, 10, 1_023, none.clone(), 0),
+            (3, 10, 1_024, none.clone(), 24),
+            (4, 10, 0x50, vec![one.clone()], 24),
+            (5, 10, 0x50, vec![PlannedOperation::Read(1)], 24),
+            (6, 10, 0x50, both.clone(), 24),
+            (7, 10, 0x50, vec![one], 24),
+            (7, 10, 0x50, both, 24),
+            (7, 10, 0x50, none, 24),
+        ];
+        for (kind, width, address, operations, cause) in tests {
+            let mut plan = example();
+            plan.calls[0] = PlannedCall {
+                kind,
+                width,
+                address,
+                operations,
+            };
+            let call = format!("kind {kind}, {width} bits, address {address}");
+            assert_eq!(refusal(&plan.bytes(), 1), cause, "{call}");
+        }
     }
 
     /// The causes of a list with one blocking transaction.

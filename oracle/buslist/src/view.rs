@@ -45,6 +45,8 @@ impl Settings {
 #[derive(Debug, Clone, Copy, PartialEq, Eq)]
 pub struct Call {
     pub kind: u8,
+    /// The bits of its address, 7 or 10.
+    pub width: u8,
     pub address: u16,
     first: usize,
     count: usize,
@@ -56,14 +58,21 @@ pub enum Operation<'a> {
     Read(usize),
 }
 
-/// A list that `refusal` accepts.
+impl Call {
+    /// A ten-bit call: its address is sent as a header and a low byte.
+    pub fn is_ten_bit(&self) -> bool {
+        self.width == 10
+    }
+}
+
+/// A list of the form: one that `refusal` accepts, or refuses for a cause above 20.
 #[derive(Clone, Copy)]
 pub struct List<'a> {
     bytes: &'a [u8],
 }
 
 impl<'a> List<'a> {
-    /// The list must be one that `refusal` accepts; of any other the answers mean nothing, or panic.
+    /// The list must be of the form; of any other the answers mean nothing, or panic.
     pub fn accepted(bytes: &'a [u8]) -> List<'a> {
         List { bytes }
     }
@@ -102,6 +111,7 @@ impl<'a> List<'a> {
             let at = HEADER + ENTRY * k;
             Call {
                 kind: self.bytes[at],
+                width: self.bytes[at + 1],
                 address: self.half(at + 2) as u16,
                 first: self.half(at + 4),
                 count: self.half(at + 6),

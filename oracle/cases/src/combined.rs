@@ -150,9 +150,8 @@ impl Combined {
 
 /// Whether a start failed: only then CR1 is written with SWRST.
 fn was_reset(ran: &Ran) -> bool {
-    let made = &ran.record[..ENTRY_WORDS * ran.counts[3] as usize];
-    made.chunks_exact(ENTRY_WORDS)
-        .any(|entry| entry == [code::WRITE_CR1, 0x8001])
+    let mut accesses = ran.made().chunks_exact(ENTRY_WORDS);
+    accesses.any(|entry| entry == [code::WRITE_CR1, 0x8001])
 }
 
 impl fmt::Display for Combined {

@@ -1,39 +1,55 @@
 //! Damage: to the readings of a run, to its buffers, and to lists.
 
-use buslist::{limit, Plan, PlannedCall, PlannedOperation};
+use buslist::{highest, limit, Plan, PlannedCall, PlannedOperation};
 use device::{code, ENTRY_WORDS};
 
-use crate::plans::scatter;
-use crate::{flag, Rng, START};
+use crate::plans::{empty, scatter};
+use crate::{flag, is_header, Rng, START};
 
 /// A reading that every wait takes as what it waits for, to go on after damage.
 const WELL: u32 = flag::READY;
 
 /// The readings of a run that were SR1 words, by their place.
+#[derive(Default)]
 struct Status {
     all: Vec<usize>,
-    /// The first after each address byte.
+    /// The first after each address byte, a ten-bit low byte among them.
     after_address: Vec<usize>,
+    /// The first after each byte of data.
+    after_data: Vec<usize>,
+}
+
+/// What the last byte written to DR was, as far as a record tells.
+enum Sent {
+    /// Nothing since the last SR1 read.
+    Nothing,
+    Address,
+    Data,
 }
 
 impl Status {
     fn of(record: &[u32]) -> Status {
-        let mut status = Status {
-            all: vec![],
-            after_address: vec![],
-        };
+        let mut status = Status::default();
         let mut taken = 0;
         let mut starting = false;
-        let mut addressed = false;
+        // A header without an SR2 read after it: the next byte is the low one.
+        let mut half = false;
+        let mut sent = Sent::Nothing;
         for entry in record.chunks_exact(ENTRY_WORDS) {
             match entry[0] {
                 code::WRITE_CR1 => starting |= entry[1] & START != 0,
-                code::WRITE_DR => addressed = std::mem::take(&mut starting),
+                code::WRITE_DR => {
+                    let first = std::mem::take(&mut starting);
+                    let low_byte = std::mem::replace(&mut half, first && is_header(entry[1]));
+                    sent = if first || low_byte {
+                        Sent::Address
+                    } else {
+                        Sent::Data
+                    };
+                }
+                code::READ_SR2 => half = false,
                 code::READ_SR1 => {
-                    status.all.push(taken);
-                    if std::mem::take(&mut addressed) {
-                        status.after_address.push(taken);
-                    }
+                    status.push(taken, std::mem::replace(&mut sent, Sent::Nothing));
                 }
                 _ => {}
             }
@@ -42,6 +58,15 @@ impl Status {
             }
         }
         status
+    }
+
+    fn push(&mut self, place: usize, after: Sent) {
+        self.all.push(place);
+        match after {
+            Sent::Nothing => {}
+            Sent::Address => self.after_address.push(place),
+            Sent::Data => self.after_data.push(place),
+        }
     }
 }
 
@@ -53,13 +78,14 @@ pub fn damage_readings(rng: &mut Rng, readings: &mut Vec<u32>, record: &[u32]) {
             return;
         }
         let any = rng.below(readings.len());
-        match rng.below(11) {
-            0..=3 => add_error_flags(rng, readings, &status.all),
-            4 | 5 => add_error_flags(rng, readings, &status.after_address),
-            6 => readings[any] = rng.word(),
-            7 => drop(readings.remove(any)),
-            8 => readings.insert(any, readings[any]),
-            9 => readings[any] = 0,
+        match rng.below(14) {
+            0..=4 => add_error_flags(rng, readings, &status.all),
+            5..=7 => add_error_flags(rng, readings, &status.after_address),
+            8 => add_error_flags(rng, readings, &status.after_data),
+            9 => readings[any] = rng.word(),
+            10 => drop(readings.remove(any)),
+            11 => readings.insert(any, readings[any]),
+            12 => readings[any] = 0,
             _ => readings[any] ^= 1 << rng.below(32),
         }
     }
@@ -119,7 +145,7 @@ pub fn exceed(rng: &mut Rng, plan: &mut Plan) {
 
 /// Gives a plan one of the causes 22 to 25 and 27.
 pub fn forbid(rng: &mut Rng, plan: &mut Plan) {
-    match rng.below(5) {
+    match rng.below(6) {
         0 => plan.settings.frequency = rng.pick(&[0, 400_001, u32::MAX, 800_000]),
         1 => {
             let mhz = rng.range(1, 4_294) as u32;
@@ -133,20 +159,46 @@ pub fn forbid(rng: &mut Rng, plan: &mut Plan) {
             *timeout = over.saturating_add(rng.pick(&[0, 1, 77]));
         }
         2 => write_after_read(rng, plan),
-        3 if !plan.calls.is_empty() => {
+        3 | 4 if !plan.calls.is_empty() => {
             let any = rng.below(plan.calls.len());
-            let call = &mut plan.calls[any];
-            if rng.percent(50) {
-                call.width = 10;
-            } else {
-                call.address = rng.pick(&[128, 255, 256, 0x150, 65_535]);
-            }
+            forbid_address(rng, &mut plan.calls[any]);
         }
         _ => plan.calls.push(PlannedCall {
             width: 7,
             address: 0x50,
             ..rng.percent(50).then(empty_write).unwrap_or_else(empty_read)
         }),
+    }
+}
+
+/// Gives a call an address that is out, cause 24: over the highest of seven bits or of ten, or ten bits in a blocking
+/// call, idle ones among them.
+fn forbid_address(rng: &mut Rng, call: &mut PlannedCall) {
+    let over = [1, 2, 128, 0x400, 0x8000];
+    match rng.below(4) {
+        0 => {
+            call.width = 7;
+            call.address = highest::SEVEN_BIT + rng.pick(&over);
+        }
+        1 => {
+            // The polling call of its operations: no blocking one may have ten bits at all.
+            call.kind &= 3;
+            call.width = 10;
+            call.address = highest::TEN_BIT + rng.pick(&over);
+        }
+        2 => {
+            call.kind |= 4;
+            call.width = 10;
+        }
+        _ => {
+            let idle = [empty(rng), empty(rng)];
+            *call = PlannedCall {
+                kind: 7,
+                width: 10,
+                operations: idle[..rng.below(3)].to_vec(),
+                ..call.clone()
+            };
+        }
     }
 }
 

@@ -3,7 +3,7 @@
 use buslist::Settings;
 use device::{code, ENTRY_WORDS};
 
-use crate::{flag, Rng, START, STOP};
+use crate::{flag, is_header, Rng, START, STOP};
 
 /// How a simulated device behaves.
 #[derive(Debug, Clone, Copy)]
@@ -18,6 +18,8 @@ pub struct Style {
     pub jumps: usize,
     /// Whether words carry bits that no one asks for, those above 16 among them.
     pub spare_bits: bool,
+    /// Whether ADD10 and ADDR are never set together while a ten-bit address may be under way.
+    pub apart: bool,
 }
 
 impl Style {
@@ -28,6 +30,7 @@ impl Style {
             start_errors: rng.pick(&[0, 0, 0, 0, 0, 0, 10, 40]),
             jumps: rng.pick(&[0, 0, 0, 20, 50]),
             spare_bits: rng.percent(50),
+            apart: rng.percent(50),
         }
     }
 }
@@ -41,6 +44,8 @@ pub struct Feed<'a> {
     /// CR1 as last written, and whether an address is still to come after its START.
     cr1: u32,
     starting: bool,
+    /// Whether a ten-bit header was sent, or a seven-bit address that looks like one, and SR2 was not read since.
+    header_sent: bool,
     /// Record words seen so far.
     seen: usize,
 }
@@ -65,6 +70,7 @@ impl<'a> Feed<'a> {
             cycles,
             cr1: 0,
             starting: false,
+            header_sent: false,
             seen: 0,
         }
     }
@@ -92,8 +98,13 @@ impl<'a> Feed<'a> {
                 code::WRITE_CR1 => {
                     self.cr1 = entry[1];
                     self.starting = entry[1] & START != 0;
+                    self.header_sent = false;
                 }
-                code::WRITE_DR => self.starting = false,
+                code::WRITE_DR => {
+                    let address = std::mem::take(&mut self.starting);
+                    self.header_sent |= address && is_header(entry[1]);
+                }
+                code::READ_SR2 => self.header_sent = false,
                 _ => {}
             }
         }
@@ -105,6 +116,12 @@ impl<'a> Feed<'a> {
             flag::READY
         } else {
             self.rng.word() & flag::READY
+        };
+        let word = if self.style.apart && self.header_sent {
+            // Which of the two is awaited cannot be told from a header: by chance each has its turn.
+            word & !self.rng.pick(&[flag::ADD10, flag::ADDR])
+        } else {
+            word
         };
         let errors = if self.starting {
             self.style.start_errors
@@ -153,7 +170,7 @@ impl<'a> Feed<'a> {
     /// Bits that no one asks for: above 16, and below them those that are no flag here.
     fn spare(&mut self, code: u32) -> u32 {
         let below = match code {
-            code::READ_SR1 => 0xA038,
+            code::READ_SR1 => 0xA030,
             code::READ_SR2 => 0xFFFC,
             code::READ_CR1 => 0x70FE,
             _ => 0xFF00,

@@ -62,12 +62,12 @@ pub fn accepted(rng: &mut Rng, list: Vec<u8>, rx: usize) -> Case {
     let (mut readings, record) = simulated(rng, &List::accepted(&list), style, rx);
     let mut words = record.len();
     let damaged = rng.below(100);
-    if damaged < 35 {
+    if damaged < 40 {
         damage::damage_readings(rng, &mut readings, &record);
         words += 400;
-    } else if damaged < 40 {
-        readings.truncate(rng.below(readings.len() + 1));
     } else if damaged < 45 {
+        readings.truncate(rng.below(readings.len() + 1));
+    } else if damaged < 50 {
         words = rng.below(words + 1);
     }
     words += rng.pick(&[0, 0, 1, 2, 3, 17, 200]);

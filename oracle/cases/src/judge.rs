@@ -1,6 +1,9 @@
-//! What a case must come to: by the independent reader where it refuses, else by the original.
+//! What a case must come to: by the independent reader where it refuses, else by the original and, for ten-bit calls,
+//! the model.
 
 use buslist::{refusal, List};
+use device::ENTRY_WORDS;
+use original::Modelled;
 
 use crate::Case;
 
@@ -28,17 +31,29 @@ impl Ran {
     pub fn answer(&self) -> u32 {
         self.counts[0] as u32
     }
+
+    /// The record: the words of the accesses made.
+    pub fn made(&self) -> &[u32] {
+        &self.record[..ENTRY_WORDS * self.counts[3] as usize]
+    }
 }
 
 pub fn judge(case: &Case) -> Ran {
-    let mut ran = Ran::before(case);
     let refused = refusal(&case.list, case.rx);
     if refused != 0 {
+        let mut ran = Ran::before(case);
         ran.counts[0] = u64::from(refused);
         return ran;
     }
-    let list = List::accepted(&case.list);
-    let counts = original::run(&list, &case.readings, &mut ran.rx, &mut ran.record);
+    run_list(&original::ten_bit, case, &case.list)
+}
+
+/// What an accepted list leaves on the readings and buffers of a case, with these calls done by the model.
+pub fn run_list(modelled: Modelled, case: &Case, list: &[u8]) -> Ran {
+    let mut ran = Ran::before(case);
+    let list = List::accepted(list);
+    let (rx, record) = (&mut ran.rx, &mut ran.record);
+    let counts = original::run_with(modelled, &list, &case.readings, rx, record);
     ran.counts = [
         u64::from(counts.answer),
         counts.calls as u64,

@@ -11,16 +11,18 @@ mod rng;
 mod shrink;
 mod sweep;
 mod tally;
+mod ten;
 
 pub use feed::{Feed, Style};
 pub use files::write_case;
 pub use generate::{accepted, generate, simulated};
-pub use judge::{judge, Ran};
+pub use judge::{judge, run_list, Ran};
 pub use plans::{plan, scatter};
 pub use rng::Rng;
 pub use shrink::shrink;
 pub use sweep::sweep;
 pub use tally::{ended_in, Tally};
+pub use ten::{wait_met, why_out};
 
 /// What a run is given.
 #[derive(Debug, Clone, PartialEq, Eq)]
@@ -37,17 +39,22 @@ pub struct Case {
 pub mod flag {
     use crate::Rng;
 
-    pub const READY: u32 = 0xC7;
+    pub const ADDR: u32 = 1 << 1;
+    pub const ADD10: u32 = 1 << 3;
+    /// SB, ADDR, BTF, ADD10, RXNE and TXE: as a word of any register it ends every wait.
+    pub const READY: u32 = 0xCF;
+    pub const ARLO: u32 = 1 << 9;
     pub const AF: u32 = 1 << 10;
     /// BERR, ARLO, AF, OVR, PECERR and TIMEOUT.
-    pub const ERRORS: [u32; 6] = [1 << 8, 1 << 9, AF, 1 << 11, 1 << 12, 1 << 14];
+    pub const ERRORS: [u32; 6] = [1 << 8, ARLO, AF, 1 << 11, 1 << 12, 1 << 14];
 
-    /// An error flag; AF more often, since it has three endings to reach, by where it is met.
+    /// An error flag. AF more often, since it has three endings to reach, by where it is met; ARLO too, since a polling
+    /// check looks for every other one before it.
     pub fn any_error(rng: &mut Rng) -> u32 {
-        if rng.percent(25) {
-            AF
-        } else {
-            rng.pick(&ERRORS)
+        match rng.below(100) {
+            0..=24 => AF,
+            25..=31 => ARLO,
+            _ => rng.pick(&ERRORS),
         }
     }
 }
@@ -55,3 +62,13 @@ pub mod flag {
 /// CR1 bits.
 pub const START: u32 = 1 << 8;
 pub const STOP: u32 = 1 << 9;
+
+/// The headers that a ten-bit address begins with, when the device is to be written to: F0, F2, F4 and F6 hexadecimal.
+pub fn is_header(byte: u32) -> bool {
+    byte & !6 == 0xF0
+}
+
+/// The seven-bit address, 120 to 123, whose byte is the header of this ten-bit one.
+pub fn seven_bit_of(address: u16) -> u16 {
+    120 + (address >> 8)
+}

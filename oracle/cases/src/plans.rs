@@ -1,6 +1,6 @@
 //! Random plans of lists that are accepted.
 
-use buslist::{limit, Mode, Plan, PlannedCall, PlannedOperation, Settings};
+use buslist::{highest, limit, Mode, Plan, PlannedCall, PlannedOperation, Settings};
 
 use crate::Rng;
 
@@ -8,12 +8,14 @@ use crate::Rng;
 pub fn plan(rng: &mut Rng) -> Plan {
     let settings = settings(rng);
     let kinds: &[u8] = match rng.below(20) {
-        0..=4 => &[0, 1, 2, 3],
-        5 => &[0, 1, 2, 3, 7],
-        6 => &[7],
-        7..=12 => &[4, 5, 6, 7],
+        0..=5 => &[0, 1, 2, 3],
+        6 => &[0, 1, 2, 3, 7],
+        7 => &[7],
+        8..=11 => &[4, 5, 6, 7],
         _ => &[0, 1, 2, 3, 4, 5, 6, 7],
     };
+    // Of a hundred polling calls, those to a ten-bit address.
+    let ten_bit = rng.pick(&[0, 25, 50, 50, 75, 100]);
     let calls = match rng.below(100) {
         0..=1 => 0,
         2..=15 => 1,
@@ -23,7 +25,7 @@ pub fn plan(rng: &mut Rng) -> Plan {
     };
     let mut plan = Plan {
         settings,
-        calls: (0..calls).map(|_| call(rng, kinds)).collect(),
+        calls: (0..calls).map(|_| call(rng, kinds, ten_bit)).collect(),
     };
     if rng.below(150) == 0 {
         lengthen(rng, &mut plan);
@@ -89,7 +91,7 @@ fn timeout(rng: &mut Rng, sysclk: u32) -> u32 {
     }
 }
 
-fn call(rng: &mut Rng, kinds: &[u8]) -> PlannedCall {
+fn call(rng: &mut Rng, kinds: &[u8], ten_bit: usize) -> PlannedCall {
     let kind = rng.pick(kinds);
     // An empty polling read ends the run with Overrun: seldom, so that most runs come further.
     let polling_read = |rng: &mut Rng| match rng.below(40) {
@@ -106,11 +108,37 @@ fn call(rng: &mut Rng, kinds: &[u8]) -> PlannedCall {
         6 => vec![write(rng, 0), PlannedOperation::Read(length(rng, 0))],
         _ => combined(rng),
     };
+    let (width, address) = if kind < 4 && rng.percent(ten_bit) {
+        (10, ten_bit_address(rng))
+    } else {
+        (7, seven_bit_address(rng))
+    };
     PlannedCall {
         kind,
-        width: 7,
-        address: rng.pick(&[0, 1, 0x50, 0x7F, 0x2A, 0x68, 0x3C, 0x48]),
+        width,
+        address,
         operations,
+    }
+}
+
+/// Those from 78 hexadecimal on have the headers of ten-bit addresses as their address bytes.
+fn seven_bit_address(rng: &mut Rng) -> u16 {
+    let usual = [0, 1, 0x50, 0x2A, 0x68, 0x3C, 0x48, highest::SEVEN_BIT];
+    let headers = [0x78, 0x79, 0x7A, 0x7B];
+    if rng.percent(30) {
+        rng.pick(&headers)
+    } else {
+        rng.pick(&usual)
+    }
+}
+
+/// Often one that is also a seven-bit address, or with an edge in its low byte or its high bits.
+fn ten_bit_address(rng: &mut Rng) -> u16 {
+    let edges = [0, 0x0FF, 0x100, 0x1FF, 0x200, 0x300, highest::TEN_BIT];
+    match rng.below(4) {
+        0 => rng.pick(&edges),
+        1 => seven_bit_address(rng),
+        _ => rng.below(usize::from(highest::TEN_BIT) + 1) as u16,
     }
 }
 
@@ -156,7 +184,8 @@ pub fn scatter(rng: &mut Rng, operations: &[PlannedOperation]) -> Vec<PlannedOpe
     parts
 }
 
-fn empty(rng: &mut Rng) -> PlannedOperation {
+/// An operation of no bytes.
+pub fn empty(rng: &mut Rng) -> PlannedOperation {
     if rng.percent(50) {
         PlannedOperation::Write(vec![])
     } else {
@@ -193,10 +222,15 @@ fn lengthen(rng: &mut Rng, plan: &mut Plan) {
     let listed = plan.calls.iter().map(|call| call.operations.len());
     let room = limit::OPERATIONS - listed.sum::<usize>();
     let (kind, operations) = long_call(rng, room);
+    let (width, address) = if kind == 3 && rng.percent(50) {
+        (10, 0x350)
+    } else {
+        (7, 0x50)
+    };
     plan.calls.push(PlannedCall {
         kind,
-        width: 7,
-        address: 0x50,
+        width,
+        address,
         operations,
     });
     let bytes = plan.bytes().len();
@@ -254,7 +288,7 @@ mod tests {
 
     #[test]
     fn plans_are_accepted_and_reach_the_limits() {
-        let mut reached = [false; 7];
+        let mut reached = [false; 9];
         for case in 0..20_000 {
             let plan = plan(&mut Rng::of(2, case));
             let list = plan.bytes();
@@ -270,6 +304,12 @@ mod tests {
             reached[1] |= plan.calls.len() == limit::CALLS;
             reached[2] |= operations.len() == limit::OPERATIONS;
             reached[3] |= longest == Some(limit::OPERATION_BYTES);
+            let to = |width, address| {
+                let mut calls = plan.calls.iter();
+                calls.any(|call| (call.width, call.address) == (width, address))
+            };
+            reached[7] |= to(7, highest::SEVEN_BIT);
+            reached[8] |= to(10, highest::TEN_BIT);
             for call in plan.calls.iter().filter(|call| call.kind == 7) {
                 let whole = buslist::combined(&call.operations);
                 let longest = whole.iter().map(|operation| operation.len()).max();
@@ -279,6 +319,6 @@ mod tests {
                 reached[6] |= longest == Some(65_537);
             }
         }
-        assert_eq!(reached, [true; 7]);
+        assert_eq!(reached, [true; 9]);
     }
 }

@@ -26,23 +26,43 @@ fn plans() -> impl Iterator<Item = Plan> {
         data_timeout: LIMIT,
         ..Settings::example()
     };
-    let call = |kind, operations| PlannedCall {
-        kind,
-        width: 7,
-        address: 0x2A,
-        operations,
+    let to = |width, address| {
+        move |(kind, operations)| PlannedCall {
+            kind,
+            width,
+            address,
+            operations,
+        }
     };
-    let calls = calls()
+    let seven_bit = calls()
         .into_iter()
         .chain(combined().map(|whole| (7, whole)));
+    let polling = calls().into_iter().filter(|(kind, _)| *kind < 4);
+    let ten_bit = polling.chain(ten_bit_shapes());
+    let calls = seven_bit.map(to(7, 0x2A)).chain(ten_bit.map(to(10, 0x305)));
     // A second call shows that nothing of the first is carried over.
-    calls.map(move |(kind, operations)| Plan {
+    calls.map(move |call| Plan {
         settings,
-        calls: vec![
-            call(kind, operations),
-            call(5, vec![PlannedOperation::Read(1)]),
-        ],
+        calls: vec![call, to(7, 0x2A)((5, vec![PlannedOperation::Read(1)]))],
     })
+}
+
+/// Neighbours, changes of direction and empty operations beside one that `calls` does not have: a ten-bit call prepares
+/// in another way for each.
+fn ten_bit_shapes() -> Vec<(u8, Vec<PlannedOperation>)> {
+    let read = PlannedOperation::Read;
+    vec![
+        (2, vec![write(0), read(1)]),
+        (2, vec![write(1), read(0)]),
+        (3, vec![read(0)]),
+        (3, vec![read(1), write(1)]),
+        (3, vec![read(0), write(1)]),
+        (3, vec![write(0), read(1)]),
+        (3, vec![write(1), write(1)]),
+        (3, vec![read(1), read(1)]),
+        (3, vec![read(1), write(1), read(1)]),
+        (3, vec![write(1), read(1), write(1)]),
+    ]
 }
 
 /// Calls of each kind, but for blocking transactions that are accepted.
@@ -140,7 +160,7 @@ fn variants(case: Case) -> impl Iterator<Item = Case> {
             c.record += 200;
         };
         // Not ready, STOP still there, bits above 16.
-        for word in [0, STOP, 0xFFFF_0000, 0xFFFF_00C7] {
+        for word in [0, STOP, 0xFFFF_0000, 0xFFFF_0000 | flag::READY] {
             add(&|c| {
                 c.readings[at] = word;
                 later(c);
@@ -153,6 +173,13 @@ fn variants(case: Case) -> impl Iterator<Item = Case> {
                     later(c);
                 });
             }
+        }
+        // The other flag of a ten-bit address in place of the awaited one.
+        for missing in [flag::ADD10, flag::ADDR] {
+            add(&|c| {
+                c.readings[at] &= !missing;
+                later(c);
+            });
         }
         for (one, first) in flag::ERRORS.iter().enumerate() {
             for second in &flag::ERRORS[one..] {

@@ -1,13 +1,15 @@
-//! How many cases met each answer, each kind and each ending within each kind.
+//! How many cases met each answer, and each ending within each kind of call and width of address.
 
 use std::fmt;
 
-use buslist::List;
+use buslist::{Call, List};
 
 use crate::combined::Combined;
+use crate::ten::TenBit;
 use crate::{Case, Ran};
 
-const KINDS: usize = 8;
+/// The rows of calls: the kinds 0 to 7 of seven-bit addresses, then 0 to 3 of ten-bit ones.
+const ROWS: usize = 12;
 const ENDINGS: usize = 11;
 const REFUSALS: std::ops::RangeInclusive<u32> = 20..=27;
 
@@ -18,20 +20,39 @@ pub struct Tally {
     /// Accepted lists that answer 0 with several calls.
     several: u64,
     answers: [u64; 28],
-    /// Calls by kind and by the ending of the call; the last call of a run ends as the run does.
-    endings: [[u64; ENDINGS]; KINDS],
+    /// Calls by row and by the ending of the call; the last call of a run ends as the run does.
+    endings: [[u64; ENDINGS]; ROWS],
     /// Runs that ended in the bring-up.
     bring_up: [u64; ENDINGS],
     /// Lists with blocking transactions.
     combined: Combined,
+    /// Lists with ten-bit calls.
+    ten_bit: TenBit,
 }
 
-/// Whether a call of this kind can end so.
-fn can_end(kind: usize, ending: usize) -> bool {
-    match (kind, ending) {
+fn row(call: &Call) -> usize {
+    let kind = usize::from(call.kind);
+    if call.is_ten_bit() {
+        8 + kind
+    } else {
+        kind
+    }
+}
+
+fn name(row: usize) -> String {
+    match row {
+        0..=7 => format!("kind {row}"),
+        _ => format!("ten-bit kind {}", row - 8),
+    }
+}
+
+/// Whether a call of this row can end so.
+fn can_end(row: usize, ending: usize) -> bool {
+    match (row, ending) {
         // A polling call clears a bus error and goes on.
-        (0..=3, 6) => false,
-        // Before its address is sent, a polling read meets no check: no NoAcknowledge stays Unknown.
+        (0..=3 | 8.., 6) => false,
+        // Before its address is sent, a polling read meets no check: no NoAcknowledge stays Unknown. A ten-bit one
+        // starts as a write, and does.
         (1, 4) => false,
         // The blocking poll does not look at PECERR.
         (4..=7, 7) => false,
@@ -39,14 +60,14 @@ fn can_end(kind: usize, ending: usize) -> bool {
     }
 }
 
-/// The kind of the call that an accepted list's run ended in: none where it ended in the bring-up, or well.
-pub fn ended_in(case: &Case, ran: &Ran) -> Option<u8> {
+/// The call that an accepted list's run ended in: none where it ended in the bring-up, or well.
+pub fn ended_in(case: &Case, ran: &Ran) -> Option<Call> {
     // The bring-up is five accesses, and without them no call has begun.
     let begun = ran.counts[3] >= 5;
     let call = List::accepted(&case.list)
         .calls()
         .nth(ran.counts[1] as usize);
-    call.filter(|_| begun).map(|call| call.kind)
+    call.filter(|_| begun)
 }
 
 impl Tally {
@@ -55,6 +76,7 @@ impl Tally {
         let answer = ran.answer();
         self.answers[answer as usize] += 1;
         self.combined.count(case, ran);
+        self.ten_bit.count(case, ran);
         if REFUSALS.contains(&answer) {
             return;
         }
@@ -65,11 +87,11 @@ impl Tally {
             self.several += 1;
         }
         for call in list.calls().take(well) {
-            self.endings[usize::from(call.kind)][0] += 1;
+            self.endings[row(&call)][0] += 1;
         }
         if answer != 0 {
             match ended_in(case, ran) {
-                Some(kind) => self.endings[usize::from(kind)][answer as usize] += 1,
+                Some(call) => self.endings[row(&call)][answer as usize] += 1,
                 None => self.bring_up[answer as usize] += 1,
             }
         }
@@ -88,10 +110,10 @@ impl Tally {
         for answer in (0..=10).chain(REFUSALS) {
             test(self.answers[answer as usize], format!("answer {answer}"));
         }
-        for (kind, endings) in self.endings.iter().enumerate() {
+        for (row, endings) in self.endings.iter().enumerate() {
             for (ending, &count) in endings.iter().enumerate() {
-                if can_end(kind, ending) {
-                    test(count, format!("kind {kind} ending {ending}"));
+                if can_end(row, ending) {
+                    test(count, format!("{} ending {ending}", name(row)));
                 }
             }
         }
@@ -104,17 +126,18 @@ impl Tally {
             ));
         }
         short.extend(self.combined.shortfalls());
+        short.extend(self.ten_bit.shortfalls());
         short
     }
 
     /// Endings seen that this file says cannot be.
     pub fn impossible(&self) -> Vec<String> {
         let seen =
-            |kind: usize, ending: usize| self.endings[kind][ending] > 0 && !can_end(kind, ending);
-        (0..KINDS)
-            .flat_map(|kind| (0..ENDINGS).map(move |ending| (kind, ending)))
-            .filter(|&(kind, ending)| seen(kind, ending))
-            .map(|(kind, ending)| format!("kind {kind} ending {ending} was met"))
+            |row: usize, ending: usize| self.endings[row][ending] > 0 && !can_end(row, ending);
+        (0..ROWS)
+            .flat_map(|row| (0..ENDINGS).map(move |ending| (row, ending)))
+            .filter(|&(row, ending)| seen(row, ending))
+            .map(|(row, ending)| format!("{} ending {ending} was met", name(row)))
             .collect()
     }
 }
@@ -134,8 +157,8 @@ impl fmt::Display for Tally {
         for ending in 0..ENDINGS {
             write!(f, "{ending:8}")?;
         }
-        for (kind, endings) in self.endings.iter().enumerate() {
-            write!(f, "\n         kind {kind}")?;
+        for (row, endings) in self.endings.iter().enumerate() {
+            write!(f, "\n{:>15}", name(row))?;
             for count in endings {
                 write!(f, "{count:8}")?;
             }
@@ -144,7 +167,7 @@ impl fmt::Display for Tally {
         for count in self.bring_up {
             write!(f, "{count:8}")?;
         }
-        write!(f, "\n{}", self.combined)
+        write!(f, "\n{}\n{}", self.combined, self.ten_bit)
     }
 }
 

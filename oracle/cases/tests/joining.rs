@@ -3,7 +3,7 @@
 
 use buslist::PlannedOperation::{self, Read, Write};
 use buslist::{combined, limit, plain_kind, refusal, List, Plan, PlannedCall};
-use cases::{generate, judge, Case, Ran};
+use cases::{generate, judge, run_list, Case, Ran};
 
 type Joining = fn(&[PlannedOperation]) -> Vec<PlannedOperation>;
 
@@ -83,18 +83,7 @@ fn run(case: &Case, joining: Joining) -> Option<Ran> {
     if operations.map(PlannedOperation::len).max() > Some(usize::from(u16::MAX)) {
         return None;
     }
-    let mut ran = Ran::before(case);
-    let list = plan.bytes();
-    let counts = original::run(
-        &List::accepted(&list),
-        &case.readings,
-        &mut ran.rx,
-        &mut ran.record,
-    );
-    let [calls, used, made, received] =
-        [counts.calls, counts.used, counts.made, counts.received].map(|count| count as u64);
-    ran.counts = [u64::from(counts.answer), calls, used, made, received];
-    Some(ran)
+    Some(run_list(&original::ten_bit, case, &plan.bytes()))
 }
 
 fn differs(case: &Case, joining: Joining) -> bool {

@@ -1,4 +1,5 @@
-//! Compares the proved engine with the original Rust, and its refusals with the independent reader.
+//! Compares the proved engine with the original Rust, its ten-bit calls with the model, and its refusals with the
+//! independent reader.
 //!
 //! `differential [CASES] [SEED]`: 100,000 cases of seed 1 unless told otherwise.
 

@@ -1,12 +1,13 @@
 //! Runs a whole bus list on the original: the bring-up once, then the calls in order.
 
 use buslist::{
-    List, Mode as ListedMode, Operation as Listed, PlannedCall, PlannedOperation, Settings,
+    Call, List, Mode as ListedMode, Operation as Listed, PlannedCall, PlannedOperation, Settings,
 };
 use device::{Cut, Feed, Usage};
 use embedded_hal::i2c::{I2c as Bus, Operation};
 
 use crate::i2c::{BlockingI2c, DutyCycle, Error, I2c, Mode, NoAcknowledgeSource};
+use crate::model::{self, Prepares};
 use crate::pac::I2C1;
 use crate::rcc::Rcc;
 use crate::time::Hz;
@@ -25,17 +26,36 @@ pub struct Counts {
     pub received: usize,
 }
 
-/// Runs an accepted list on these readings.
+/// The polling calls that the model does in place of the Rust, and how they address their device.
+pub type Modelled<'a> = &'a dyn Fn(&Call) -> Option<Prepares>;
+
+/// Ten-bit calls alone: of these the Rust cannot be the judge.
+pub fn ten_bit(call: &Call) -> Option<Prepares> {
+    call.is_ten_bit().then(|| Prepares::ten_bit(call.address))
+}
+
+/// Runs an accepted list on these readings: ten-bit calls by the model, all others by the Rust.
 pub fn run(list: &List, readings: &[u32], rx: &mut [u8], record: &mut [u32]) -> Counts {
+    run_with(&ten_bit, list, readings, rx, record)
+}
+
+/// The same, with other calls done by the model, or other prepares.
+pub fn run_with(
+    modelled: Modelled,
+    list: &List,
+    readings: &[u32],
+    rx: &mut [u8],
+    record: &mut [u32],
+) -> Counts {
     let mut calls = 0;
-    let (ended, usage) = device::run(readings, record, || perform(list, rx, &mut calls));
+    let (ended, usage) = device::run(readings, record, || perform(modelled, list, rx, &mut calls));
     counts(ended, calls, usage)
 }
 
 /// Runs an accepted list on readings that `feed` makes as they are asked for.
 pub fn simulate(list: &List, feed: Box<Feed>, rx: &mut [u8], record: &mut [u32]) -> Counts {
     let mut calls = 0;
-    let (ended, usage) = device::simulate(feed, record, || perform(list, rx, &mut calls));
+    let (ended, usage) = device::simulate(feed, record, || perform(&ten_bit, list, rx, &mut calls));
     counts(ended, calls, usage)
 }
 
@@ -138,7 +158,12 @@ impl Drivers {
     }
 }
 
-fn perform(list: &List, rx: &mut [u8], ended_well: &mut usize) -> Result<(), Error> {
+fn perform(
+    modelled: Modelled,
+    list: &List,
+    rx: &mut [u8],
+    ended_well: &mut usize,
+) -> Result<(), Error> {
     let mut drivers = Drivers::new(list.settings());
     let mut operations = Vec::new();
     let mut rx = rx;
@@ -154,7 +179,10 @@ fn perform(list: &List, rx: &mut [u8], ended_well: &mut usize) -> Result<(), Err
         } else {
             operations.clear();
             operations.extend(list.operations(&call).map(|listed| lend(listed, &mut rx)));
-            drivers.call(call.kind, address, &mut operations)?;
+            match modelled(&call) {
+                Some(prepares) => model::call(&prepares, call.kind, &mut operations)?,
+                None => drivers.call(call.kind, address, &mut operations)?,
+            }
         }
         *ended_well += 1;
     }

@@ -1,4 +1,5 @@
-//! Demand 3 searched over the original Rust: pairs of lists with one settings and no idle call.
+//! Demand 3 searched over the original Rust, and over the model of ten-bit calls: pairs of lists with one settings and no
+//! idle call.
 //!
 //! `pairs [PAIRS] [SEED]`: 100,000 of each kind of pair, of seed 1, unless told otherwise.
 //!
@@ -15,8 +16,8 @@ use std::process::ExitCode;
 
 use buslist::{List, Plan, PlannedOperation};
 use cases::{accepted, judge, plan, simulated, write_case, Case, Ran, Rng, Style};
-use device::ENTRY_WORDS;
 
+use near::Class;
 use reduce::{idle, is_blocking, reduced};
 use tally::{Likes, Nears};
 
@@ -76,20 +77,20 @@ fn near_misses(pairs: u64, seed: u64) -> bool {
     let found = (0..).filter_map(|number| Some((number, near_miss(seed, number)?)));
     for (number, near) in found.take(pairs as usize) {
         let again = judge(&near.second);
-        if again.answer() == 0 && made(&again) == made(&near.ran) {
+        if again.answer() == 0 && again.made() == near.ran.made() {
             println!("near miss {number} of seed {seed}: unlike reduced calls, equal records");
             return keep(&near.first, &near.second);
         }
-        nears.count(near.miss, near.kind, &near.ran, &again);
+        nears.count(near.miss, near.class, &near.ran, &again);
     }
     println!("{nears}");
     enough(&nears.shortfalls())
 }
 
 struct NearMiss {
-    /// What differs, and the kind of the call where it does.
+    /// What differs, and the class of the call where it does.
     miss: usize,
-    kind: u8,
+    class: Class,
     first: Case,
     /// The first's run, which answers 0.
     ran: Ran,
@@ -103,7 +104,7 @@ fn near_miss(seed: u64, number: u64) -> Option<NearMiss> {
     let one = comparable(rng);
     let miss = rng.below(near::MISSES.len());
     let place = rng.below(one.calls.len());
-    let kind = one.calls.get(place)?.kind;
+    let class = Class::of(one.calls.get(place)?);
     let other = near::miss(rng, &one, miss, place)?;
     if other.calls.iter().any(idle) || reduced(&one) == reduced(&other) {
         return None;
@@ -116,7 +117,7 @@ fn near_miss(seed: u64, number: u64) -> Option<NearMiss> {
     };
     Some(NearMiss {
         miss,
-        kind,
+        class,
         first,
         ran,
         second,
@@ -139,6 +140,7 @@ fn ending_well(rng: &mut Rng, plan: &Plan) -> Option<(Case, Ran)> {
         start_errors: 0,
         jumps: 0,
         spare_bits: false,
+        apart: false,
     };
     let list = plan.bytes();
     let rx = plan.read_together();
@@ -151,11 +153,6 @@ fn ending_well(rng: &mut Rng, plan: &Plan) -> Option<(Case, Ran)> {
     };
     let ran = judge(&case);
     (ran.answer() == 0).then_some((case, ran))
-}
-
-/// The record: the words of the accesses made.
-fn made(ran: &Ran) -> &[u32] {
-    &ran.record[..ENTRY_WORDS * ran.counts[3] as usize]
 }
 
 fn keep(first: &Case, second: &Case) -> bool {

@@ -1,35 +1,139 @@
 //! Lists that nearly have equal reduced calls: one thing differs.
 
 use buslist::{combined, plain_kind, Plan, PlannedCall, PlannedOperation};
-use cases::Rng;
+use cases::{seven_bit_of, Rng};
 
 use crate::reduce::is_blocking;
 
 /// Changes one thing in the call at this place, where it has a place for it.
 type Change = fn(&mut Rng, &mut Plan, usize) -> Option<()>;
 
-/// The things that can differ.
-pub const MISSES: [(&str, Change); 8] = [
-    ("another address", alter_address),
-    ("another byte", alter_byte),
-    ("a byte more or less", alter_write),
-    ("a read longer or shorter by one", alter_read),
-    ("a call in two", cut),
-    ("two calls in one", join),
-    ("the other engine", change_engine),
-    ("two calls exchanged", exchange),
+/// Calls that are counted apart.
+#[derive(Debug, Clone, Copy, PartialEq, Eq)]
+pub enum Class {
+    Polling,
+    TenBit,
+    PlainBlocking,
+    BlockingTransaction,
+}
+
+use Class::{BlockingTransaction, PlainBlocking, Polling, TenBit};
+
+impl Class {
+    pub const ALL: [(&str, Class); 4] = [
+        ("polling", Polling),
+        ("ten-bit polling", TenBit),
+        ("plain blocking", PlainBlocking),
+        ("transaction", BlockingTransaction),
+    ];
+
+    pub fn of(call: &PlannedCall) -> Class {
+        match call.kind {
+            0..=3 if call.is_ten_bit() => TenBit,
+            0..=3 => Polling,
+            4..=6 => PlainBlocking,
+            _ => BlockingTransaction,
+        }
+    }
+}
+
+const ANY: &[Class] = &[Polling, TenBit, PlainBlocking, BlockingTransaction];
+/// The blocking engine has no ten-bit calls.
+const OF_TWO_WIDTHS: &[Class] = &[Polling, TenBit];
+const OF_TWO_ENGINES: &[Class] = &[Polling, PlainBlocking, BlockingTransaction];
+
+/// The things that can differ, and in which calls.
+pub const MISSES: [(&str, Change, &[Class]); 11] = [
+    ("another address", alter_address, ANY),
+    ("another high bit of ten", alter_high_bits, &[TenBit]),
+    ("the other width", change_width, OF_TWO_WIDTHS),
+    ("the other width, bytes alike", disguise, OF_TWO_WIDTHS),
+    ("another byte", alter_byte, ANY),
+    ("a byte more or less", alter_write, ANY),
+    ("a read longer or shorter by one", alter_read, ANY),
+    ("a call in two", cut, ANY),
+    ("two calls in one", join, ANY),
+    ("the other engine", change_engine, OF_TWO_ENGINES),
+    ("two calls exchanged", exchange, ANY),
 ];
 
 /// The plan with that thing changed in the call at this place, where the list is still accepted.
 pub fn miss(rng: &mut Rng, plan: &Plan, miss: usize, place: usize) -> Option<Plan> {
     let mut other = plan.clone();
-    let (_, change) = MISSES[miss];
+    let (_, change, _) = MISSES[miss];
     change(rng, &mut other, place)?;
     (buslist::refusal(&other.bytes(), other.read_together()) == 0).then_some(other)
 }
 
+/// Any bit of seven, or a bit of a ten-bit low byte.
 fn alter_address(rng: &mut Rng, plan: &mut Plan, place: usize) -> Option<()> {
-    plan.calls[place].address ^= 1 << rng.below(7);
+    let call = &mut plan.calls[place];
+    let bits = if call.is_ten_bit() { 8 } else { 7 };
+    call.address ^= 1 << rng.below(bits);
+    Some(())
+}
+
+/// A bit of a ten-bit header.
+fn alter_high_bits(rng: &mut Rng, plan: &mut Plan, place: usize) -> Option<()> {
+    let call = &mut plan.calls[place];
+    let ten_bit = call.is_ten_bit();
+    ten_bit.then(|| call.address ^= 0x100 << rng.below(2))
+}
+
+/// The same address in the other width, where both have it.
+fn change_width(_: &mut Rng, plan: &mut Plan, place: usize) -> Option<()> {
+    let call = &mut plan.calls[place];
+    call.width = if call.is_ten_bit() { 7 } else { 10 };
+    Some(())
+}
+
+/// The other width with the same bytes written to DR: a ten-bit call to the seven-bit address that its header is the
+/// byte of, its low byte written first; and back.
+fn disguise(rng: &mut Rng, plan: &mut Plan, place: usize) -> Option<()> {
+    let call = &mut plan.calls[place];
+    if call.is_ten_bit() {
+        as_seven_bit(call);
+        Some(())
+    } else {
+        as_ten_bit(rng, call)
+    }
+}
+
+fn as_seven_bit(call: &mut PlannedCall) {
+    let low_byte = call.address as u8;
+    call.width = 7;
+    call.address = seven_bit_of(call.address);
+    match call.operations.first_mut() {
+        Some(PlannedOperation::Write(bytes)) => bytes.insert(0, low_byte),
+        // A first read sends the header, the low byte and a header again: as a write_read does.
+        _ => {
+            let write = PlannedOperation::Write(vec![low_byte]);
+            call.operations.insert(0, write);
+            call.kind = call.kind.max(2);
+        }
+    }
+}
+
+fn as_ten_bit(rng: &mut Rng, call: &mut PlannedCall) -> Option<()> {
+    if is_blocking(call) {
+        return None;
+    }
+    let high_bits = (0..4).find(|bits| seven_bit_of(bits << 8) == call.address)?;
+    let PlannedOperation::Write(bytes) = call.operations.first_mut()? else {
+        return None;
+    };
+    if bytes.is_empty() {
+        return None;
+    }
+    let low_byte = bytes.remove(0);
+    call.width = 10;
+    call.address = high_bits << 8 | u16::from(low_byte);
+    // What was a write of one byte, then a read, can be a first read.
+    let read_next = matches!(call.operations[..], [_, PlannedOperation::Read(_), ..]);
+    if call.operations[0].is_empty() && read_next && rng.percent(50) {
+        call.operations.remove(0);
+        call.kind = if call.kind == 2 { 1 } else { 3 };
+    }
     Some(())
 }
 
@@ -159,6 +263,8 @@ fn with(
 mod tests {
     use std::collections::BTreeSet;
 
+    use PlannedOperation::{Read, Write};
+
     use super::*;
     use crate::comparable;
     use crate::reduce::reduced;
@@ -203,6 +309,44 @@ mod tests {
         for (kind, parts) in forms {
             assert!(cuts.contains(&(vec![kind], parts.to_vec())), "{parts:?}");
             assert!(joins.contains(&(parts.to_vec(), vec![kind])), "{parts:?}");
+        }
+    }
+
+    /// The seven-bit write to 120 of 05 and 01 against the ten-bit write to 005 of 01, and the like.
+    #[test]
+    fn disguises() {
+        let call = |kind, width, address, operations: &[PlannedOperation]| PlannedCall {
+            kind,
+            width,
+            address,
+            operations: operations.to_vec(),
+        };
+        let write = |bytes: &[u8]| Write(bytes.to_vec());
+        let pairs = [
+            (
+                call(0, 10, 0x005, &[write(&[1])]),
+                call(0, 7, 120, &[write(&[5, 1])]),
+            ),
+            (
+                call(1, 10, 0x2FF, &[Read(2)]),
+                call(2, 7, 122, &[write(&[0xFF]), Read(2)]),
+            ),
+            (
+                call(3, 10, 0x300, &[Read(1), write(&[])]),
+                call(3, 7, 123, &[write(&[0]), Read(1), write(&[])]),
+            ),
+        ];
+        for (ten_bit, seven_bit) in pairs {
+            let mut disguised = ten_bit.clone();
+            as_seven_bit(&mut disguised);
+            assert_eq!(disguised, seven_bit);
+            // One of the two ways back, by chance.
+            let back = (0..20).any(|case| {
+                let mut disguised = seven_bit.clone();
+                as_ten_bit(&mut Rng::of(4, case), &mut disguised);
+                disguised == ten_bit
+            });
+            assert!(back, "{ten_bit:?}");
         }
     }
 }

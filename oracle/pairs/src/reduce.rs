@@ -1,10 +1,11 @@
-//! The reduced call of document 01, and of document 02 for kind 7.
+//! The reduced call of document 01, and of document 02 for kind 7 and the width of an address.
 
 use buslist::{combined, joined, Plan, PlannedCall, PlannedOperation};
 
 #[derive(Debug, PartialEq, Eq)]
 pub struct Reduced {
     blocking: bool,
+    width: u8,
     address: u16,
     operations: Vec<PlannedOperation>,
 }
@@ -37,6 +38,7 @@ fn reduce(call: &PlannedCall) -> Reduced {
     };
     Reduced {
         blocking,
+        width: call.width,
         address: call.address,
         operations,
     }
@@ -73,6 +75,15 @@ mod tests {
         assert_eq!(reduce(&combined), reduce(&call(4, &[write(&[1, 2])])));
         assert_ne!(reduce(&combined), reduce(&call(4, &[write(&[2, 1])])));
         assert_ne!(reduce(&combined), reduce(&call(0, &[write(&[1, 2])])));
+    }
+
+    /// Document 02: the reduced address carries its width.
+    #[test]
+    fn widths_are_told_apart() {
+        let seven_bit = call(0, &[write(&[1])]);
+        let mut ten_bit = seven_bit.clone();
+        ten_bit.width = 10;
+        assert_ne!(reduce(&seven_bit), reduce(&ten_bit));
     }
 
     /// Document 02: with nothing left a blocking transaction is idle. A polling one has to list nothing.

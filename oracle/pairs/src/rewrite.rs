@@ -9,16 +9,26 @@ use crate::reduce::is_blocking;
 type Way = fn(&PlannedCall, &PlannedCall) -> bool;
 
 /// The ways in which a call is written anew, for the counts.
-pub const WAYS: [(&str, Way); 8] = [
+pub const WAYS: [(&str, Way); 11] = [
     ("a plain polling call as a transaction", |call, again| {
-        call.kind < 3 && again.kind == 3
+        !call.is_ten_bit() && as_transaction(call, again)
     }),
     ("a transaction as a plain polling call", |call, again| {
-        call.kind == 3 && again.kind < 3
+        !call.is_ten_bit() && as_transaction(again, call)
     }),
     ("a transaction with other operations", |call, again| {
-        call.kind == 3 && again.kind == 3 && call.operations != again.operations
+        !call.is_ten_bit() && another_transaction(call, again)
     }),
+    ("a plain ten-bit call as a transaction", |call, again| {
+        call.is_ten_bit() && as_transaction(call, again)
+    }),
+    ("a ten-bit transaction as a plain call", |call, again| {
+        call.is_ten_bit() && as_transaction(again, call)
+    }),
+    (
+        "a ten-bit transaction with other operations",
+        |call, again| call.is_ten_bit() && another_transaction(call, again),
+    ),
     ("a blocking write or read as a write_read", |call, again| {
         matches!(call.kind, 4 | 5) && again.kind == 6
     }),
@@ -38,6 +48,14 @@ pub const WAYS: [(&str, Way); 8] = [
         |call, again| call.kind == 7 && again.kind == 7 && call.operations != again.operations,
     ),
 ];
+
+fn as_transaction(call: &PlannedCall, again: &PlannedCall) -> bool {
+    call.kind < 3 && again.kind == 3
+}
+
+fn another_transaction(call: &PlannedCall, again: &PlannedCall) -> bool {
+    call.kind == 3 && again.kind == 3 && call.operations != again.operations
+}
 
 /// A plan with the same reduced calls; often other kinds and operations.
 pub fn alike(rng: &mut Rng, plan: &Plan) -> Plan {

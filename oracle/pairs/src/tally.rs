@@ -1,12 +1,11 @@
 //! What a search went through. One that met too little of something shows nothing, and fails.
 
 use std::fmt;
-use std::ops::RangeInclusive;
 
 use buslist::Plan;
 use cases::Ran;
 
-use crate::near::MISSES;
+use crate::near::{Class, MISSES};
 use crate::rewrite::WAYS;
 
 /// Like pairs.
@@ -60,25 +59,18 @@ impl fmt::Display for Likes {
 /// Near misses, and how many came close: all, both answer 0, and of these records as long.
 #[derive(Default)]
 pub struct Nears {
-    /// By what differs, and by the kind of the call where it does.
-    counts: [[[u64; 3]; KINDS.len()]; MISSES.len()],
+    /// By what differs, and by the class of the call where it does.
+    counts: [[[u64; 3]; Class::ALL.len()]; MISSES.len()],
 }
 
-/// The kinds that are counted apart.
-const KINDS: [(&str, RangeInclusive<u8>); 3] = [
-    ("polling", 0..=3),
-    ("plain blocking", 4..=6),
-    ("transaction", 7..=7),
-];
-
 impl Nears {
-    /// A near miss: what differs, the kind of its call, the first's run, which answers 0, and the second's.
-    pub fn count(&mut self, miss: usize, kind: u8, ran: &Ran, again: &Ran) {
+    /// A near miss: what differs, the class of its call, the first's run, which answers 0, and the second's.
+    pub fn count(&mut self, miss: usize, class: Class, ran: &Ran, again: &Ran) {
         let both_well = again.answer() == 0;
         let as_long = both_well && ran.counts[3] == again.counts[3];
-        for (counts, (_, kinds)) in self.counts[miss].iter_mut().zip(KINDS) {
+        for (counts, (_, of)) in self.counts[miss].iter_mut().zip(Class::ALL) {
             for (count, met) in counts.iter_mut().zip([true, both_well, as_long]) {
-                *count += u64::from(met && kinds.contains(&kind));
+                *count += u64::from(met && of == class);
             }
         }
     }
@@ -91,9 +83,11 @@ impl Nears {
         let named = MISSES
             .iter()
             .zip(self.counts)
-            .flat_map(|((name, _), counts)| {
-                let of_kinds = KINDS.into_iter().zip(counts);
-                of_kinds.map(move |((kinds, _), [all, ..])| (format!("{name}, {kinds}"), all))
+            .flat_map(|((name, _, classes), counts)| {
+                let of_each = Class::ALL.into_iter().zip(counts);
+                of_each
+                    .filter(|((_, class), _)| classes.contains(class))
+                    .map(move |((class, _), [all, ..])| (format!("{name}, {class}"), all))
             });
         too_few(self.together()[0], named)
     }
@@ -107,10 +101,10 @@ impl fmt::Display for Nears {
             "near misses: {all}, of these both answer 0 {both_well}, with records as long {as_long}, equal 0"
         )?;
         write!(f, "  {:31}", "all, both 0, as long")?;
-        for (kinds, _) in KINDS {
-            write!(f, " {kinds:>24}")?;
+        for (class, _) in Class::ALL {
+            write!(f, " {class:>24}")?;
         }
-        for ((name, _), counts) in MISSES.iter().zip(self.counts) {
+        for ((name, ..), counts) in MISSES.iter().zip(self.counts) {
             write!(f, "\n  {name:31}")?;
             for [all, both_well, as_long] in counts {
                 write!(f, " {all:8}{both_well:8}{as_long:8}")?;

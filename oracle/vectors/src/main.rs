@@ -5,8 +5,8 @@
 use std::collections::BTreeMap;
 use std::process::ExitCode;
 
-use cases::{ended_in, generate, judge, Case, Ran};
-use device::ENTRY_WORDS;
+use buslist::List;
+use cases::{ended_in, generate, judge, wait_met, why_out, Case, Ran};
 
 /// Cases of this seed that are looked at.
 const LOOKED_AT: u64 = 200_000;
@@ -15,9 +15,10 @@ const LONGEST: usize = 600;
 /// The longest buffers that the program `replay` has: bytes received, words of the record.
 const ROOM: usize = 4_096;
 const WORDS: usize = 2_048;
-/// Cases kept of each ending: of a call of one kind, of a run that ends well, and of a refusal.
+/// Cases kept of each ending: of a call of one kind and width, of a run that ends well, with ten-bit calls or without,
+/// and of a refusal.
 const OF_A_CALL: usize = 4;
-const WELL: usize = 60;
+const WELL: usize = 40;
 const OF_A_REFUSAL: usize = 8;
 
 fn main() -> ExitCode {
@@ -30,7 +31,7 @@ fn main() -> ExitCode {
         .next()
         .map_or(1, |word| word.parse().expect("the seed is a number"));
 
-    let mut kept: BTreeMap<(u32, Option<u8>), usize> = BTreeMap::new();
+    let mut kept: BTreeMap<(u32, String), usize> = BTreeMap::new();
     let mut stored = Vec::new();
     for number in 0..LOOKED_AT {
         let case = generate(seed, number);
@@ -39,12 +40,12 @@ fn main() -> ExitCode {
         if vector.len() > LONGEST || case.rx > ROOM || case.record > WORDS {
             continue;
         }
-        let answer = ran.answer();
-        let (ending, most) = match answer {
-            0 => ((0, None), WELL),
-            1..=10 => ((answer, ended_in(&case, &ran)), OF_A_CALL),
-            _ => ((answer, None), OF_A_REFUSAL),
+        let most = match ran.answer() {
+            0 => WELL,
+            1..=10 => OF_A_CALL,
+            _ => OF_A_REFUSAL,
         };
+        let ending = (ran.answer(), place(&case, &ran));
         let count = kept.entry(ending).or_default();
         if *count < most {
             *count += 1;
@@ -52,11 +53,8 @@ fn main() -> ExitCode {
         }
     }
 
-    for ((answer, kind), count) in &kept {
-        match kind {
-            Some(kind) => println!("answer {answer} in a call of kind {kind}: {count}"),
-            None => println!("answer {answer}: {count}"),
-        }
+    for ((answer, place), count) in &kept {
+        println!("answer {answer}{place}: {count}");
     }
     let bytes: Vec<u8> = stored.iter().flat_map(|word| word.to_le_bytes()).collect();
     let cases: usize = kept.values().sum();
@@ -66,6 +64,24 @@ fn main() -> ExitCode {
     }
     println!("{cases} cases, {} bytes", bytes.len());
     ExitCode::SUCCESS
+}
+
+/// Where a run ended, for the choice of cases: in which call, or what a list has or lacks.
+fn place(case: &Case, ran: &Ran) -> String {
+    let list = List::accepted(&case.list);
+    match ran.answer() {
+        0 if list.calls().any(|call| call.is_ten_bit()) => " with ten-bit calls".into(),
+        1..=10 => match ended_in(case, ran) {
+            Some(call) => {
+                let wait = wait_met(ran).filter(|_| call.is_ten_bit() && ran.answer() == 2);
+                let at = wait.map_or(String::new(), |wait| format!(" at {wait}"));
+                format!(" in a {}-bit call of kind {}{at}", call.width, call.kind)
+            }
+            None => " in the bring-up".into(),
+        },
+        24 => format!(", {}", why_out(&case.list).expect("a call is out")),
+        _ => String::new(),
+    }
 }
 
 /// A case and what it must come to, in words.
@@ -84,7 +100,7 @@ fn vector(case: &Case, ran: &Ran) -> Vec<u32> {
     ];
     vector.extend(packed(&case.list));
     vector.extend(&case.readings);
-    vector.extend(&ran.record[..ENTRY_WORDS * made as usize]);
+    vector.extend(ran.made());
     vector.extend(packed(&ran.rx[..received as usize]));
     vector
 }
