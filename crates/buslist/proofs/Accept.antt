@@ -20,7 +20,7 @@ use Rattle.buslist.specs.Bytes.{word}
 use Rattle.buslist.specs.Table.{call-count, call-offset, operation-count, operation-offset, data-bytes, data-offset, settings-of, call-at, operation-at, entries, calls, operations, operations-of}
 use Rattle.buslist.specs.Form.{header-right, written, operation-right, operations-right, kind-right, call-right, calls-right, of-the-form}
 use Rattle.buslist.specs.Refusal.{any, longest-operation, over-limit, timeout-out, address-out, empty-blocking, all-received, write-after-read, causes, first-cause, refusal}
-use Rattle.buslist.specs.Meaning.{write, read, engine-of, is-polling, is-ten, operation-of, address-of}
+use Rattle.buslist.specs.Meaning.{write, read, engine-of, is-polling, address-width, is-ten, operation-of, address-of}
 
 -- tests as facts: for `simp tests at e`
 eqb-iff : (a b : ℕ) → (eqb a b ≡ true) ↔ (a ≡ b)
@@ -57,7 +57,7 @@ pub record NoCause (l : List ℕ) (rx : ℕ) : Type 0 where
   pub combined : any (write-after-read l) (calls l) ≡ false
 
 -- a cause that is passed does not apply
-passed : (b : Bool) (n rest : ℕ) → cond b n rest ≡ 0 → 0 < n → (b ≡ false) × (rest ≡ 0)
+pub passed : (b : Bool) (n rest : ℕ) → cond b n rest ≡ 0 → 0 < n → (b ≡ false) × (rest ≡ 0)
 passed true n rest e h = absurd (omega arith)
 passed false n rest e h = (refl, e)
 
@@ -234,6 +234,15 @@ not-ten : (ten : Bool) {a : ℕ} → cond ten (ltb 1023 a || true) (ltb 127 a) �
 not-ten true e = absurd (false≢true (sym ((simp or-not-iff at e) .1)))
 not-ten false e = refl
 
+-- an address has the width of its entry, where that is 7 or 10
+width-of : (c : CallEntry) → (eqb (c .width) 7 || eqb (c .width) 10) ≡ true → address-width (address-of c) ≡ c .width
+unfolding address-of
+width-of c e = by (is-ten c) refl
+  where
+    by : (ten : Bool) → is-ten c ≡ ten → address-width (cond ten (Address.Ten (c .address)) (Address.Seven (c .address))) ≡ c .width
+    by true t = sym (eqb-true _ _ t)
+    by false t = sym (eqb-true _ _ (rw (t, or-false) at e))
+
 module _ (l : List ℕ) (rx : ℕ) (ok : refusal l rx ≡ 0) where
   -- the parts of the form
   parts : ((header-right l ≡ true) × (operations-right (data-bytes l) 0 (operations l) ≡ true)) × (calls-right l 0 (calls l) ≡ true)
@@ -315,8 +324,12 @@ module _ (l : List ℕ) (rx : ℕ) (ok : refusal l rx ≡ 0) where
     call-stands : RightCall l (call-placed .sum) (call-at l k)
     call-stands = right-call l _ _ (call-placed .stands)
 
+    -- its address has the width that its entry says
+    pub call-width : address-width (address-of (call-at l k)) ≡ call-at l k .width
+    call-width = width-of (call-at l k) (call-stands .width)
+
     -- its address fits its width, and is no ten-bit one in a blocking call
-    address-in : address-out (call-at l k) ≡ false
+    pub address-in : address-out (call-at l k) ≡ false
     address-in = entry-fails address-out (call-at l) (call-count l) k (accepted l rx ok .addresses) h
 
     -- so a blocking call has a seven-bit address

@@ -6,16 +6,17 @@ use mathlib.Core.Bool.{Bool, true, false}
 use mathlib.Core.Path.{_≡_, refl, ap, ap₂, sym}
 use mathlib.Core.List.{List, [], _∷_, _++_, append-assoc}
 use Rattle.units.specs.declared.Setup.{Setup}
+use Rattle.buslist.specs.declared.Address.{Address}
 use Rattle.buslist.specs.Meaning.{Operation, write, read}
 use Rattle.registers.specs.Word.{BTF}
 use Rattle.registers.specs.Access.{SR1, CR1, CYC, wSR1, wDR}
 use Rattle.registers.specs.Machine.{Step, start}
 use Rattle.i2c.specs.declared.Previous.{Previous}
-use Rattle.i2c.specs.Polling.{address-byte, prepare-write, prepare-read, write-bytes, read-bytes, last-read, turn-write, turn-read, turn, transfer, direction, is-last, polling-steps}
+use Rattle.i2c.specs.Polling.{address-byte, first-byte, send-low-byte, request-write, prepare-write, start-read, repeat-start, request-read, address-read, prepare-read, write-bytes, read-bytes, last-read, turn-write, turn-read, turn, transfer, direction, is-last, polling-steps}
 use Rattle.blocking.specs.Blocking.{send-start-and-wait, send-addr-and-wait, write-wait, later-bytes, write-bytes-and-wait, write-without-stop, close, read-wait, receive-bytes, read-one, read-two, read-arm, read-steps, close-after, blocking-steps}
 use Rattle.demands.specs.Compare.{ends-empty}
 use Rattle.demands.proofs.Shape.{Full}
-use Rattle.demands.proofs.Trace.{Both, ends, stops, first, apart, flip, prefix, skip, puts, modifies, modify-or-wait, check-or-flag, waits}
+use Rattle.demands.proofs.Trace.{Both, ends, stops, first, apart, flip, prefix, skip, puts, modifies, modify-or-wait, check-or-flag, checks, waits}
 
 -- operations that each turn the direction, after this one before them
 abbrev pub Turns : Previous → List Operation → Type 0
@@ -44,12 +45,12 @@ module _ {s : Setup} {P : Type 0} {p q : List Step} where
   same-reads (suc m) (suc n) hp hq k = skip (skip (same-reads m n hp hq (λ e. k (ap suc e))))
 
 -- an operation once prepared, those after it, and what follows
-abbrev opened : ℕ → Operation → List Operation → List Step → List Step
+abbrev opened : Address → Operation → List Operation → List Step → List Step
 opened a o os p = transfer (is-last os) o ++ (polling-steps false a (direction o) os ++ p)
 
-module _ {s : Setup} {P : Type 0} {p q : List Step} (a : ℕ) where
+module _ {s : Setup} {P : Type 0} {p q : List Step} (a : Address) where
   mutual
-    unfolding polling-steps transfer last-read turn turn-read turn-write first ends-empty
+    unfolding polling-steps transfer last-read turn turn-read turn-write request-read first ends-empty
 
     -- two writes, prepared, and what follows each
     writes : (bs cs : List ℕ) (os ps : List Operation) → Turns Previous.Write os → Turns Previous.Write ps
@@ -60,7 +61,7 @@ module _ {s : Setup} {P : Type 0} {p q : List Step} (a : ℕ) where
     writes bs cs [] (read n ∷ ps) t u f g k = simp append-assoc (same-bytes bs cs refl refl (λ e. modify-or-wait))
     writes bs cs (read m ∷ os) [] t u f g k = simp append-assoc (same-bytes bs cs refl refl (λ e. flip modify-or-wait))
     writes bs cs (read m ∷ os) (read n ∷ ps) t u f g k =
-        simp append-assoc (same-bytes bs cs refl refl (λ e. prefix (prepare-read a) (reads m n os ps t u f g (λ es. k (ap₂ (λ x xs. write x ∷ xs) e es)))))
+        simp append-assoc (same-bytes bs cs refl refl (λ e. prefix (prepare-read a false) (reads m n os ps t u f g (λ es. k (ap₂ (λ x xs. write x ∷ xs) e es)))))
 
     -- two reads, prepared, and what follows each
     reads : (m n : ℕ) (os ps : List Operation) → Turns Previous.Read os → Turns Previous.Read ps
@@ -75,26 +76,83 @@ module _ {s : Setup} {P : Type 0} {p q : List Step} (a : ℕ) where
     reads m zero (write bs ∷ os) [] t u f g k = absurd g
     reads m (suc n) (write bs ∷ os) [] t u f g k = simp append-assoc (same-reads m n refl refl (λ e. flip modify-or-wait))
     reads m n (write bs ∷ os) (write cs ∷ ps) t u f g k =
-        simp append-assoc (same-reads m n refl refl (λ e. prefix (prepare-write a) (writes bs cs os ps t u f g (λ es. k (ap₂ (λ x xs. read x ∷ xs) e es)))))
+        simp append-assoc (same-reads m n refl refl (λ e. prefix request-write (skip (prefix (send-low-byte a) (skip (skip
+        (writes bs cs os ps t u f g (λ es. k (ap₂ (λ x xs. read x ∷ xs) e es)))))))))
 
 -- what reduced operations of a polling call are: some, each turning the direction, the last no empty read
 abbrev pub PollingForm : List Operation → Type 0
 PollingForm [] = ⊥
 PollingForm (o ∷ os) = Turns (direction o) os × Full (o ∷ os)
 
+-- a polling call begins with the prepare for its first operation
+begins : (a : Address) (o : Operation) (os : List Operation) (p : List Step)
+    → polling-steps false a Previous.Nothing (o ∷ os) ++ p ≡ turn false a Previous.Nothing o ++ opened a o os p
+unfolding polling-steps
+begins a o os p = simp append-assoc
+
+module _ {s : Setup} {P : Type 0} where
+  -- prepares for a write to addresses of two widths: an SR2 read follows the one, and the low byte the other
+  widths-apart : (a c : ℕ) {p q : List Step} → Both s P (prepare-write (Address.Seven a) ++ p) (prepare-write (Address.Ten c) ++ q)
+  unfolding first
+  widths-apart a c = prefix request-write (puts (λ e. checks (omega arith) (omega arith) (omega arith)))
+
+  -- prepares for a write with a common trace have one address
+  same-prepare : (a c : Address) {p q : List Step} → (a ≡ c → Both s P p q) → Both s P (prepare-write a ++ p) (prepare-write c ++ q)
+  same-prepare (Address.Seven a) (Address.Seven c) k = prefix request-write (puts (λ e. skip (skip (k (ap Address.Seven (omega arith))))))
+  same-prepare (Address.Seven a) (Address.Ten c) k = widths-apart a c
+  same-prepare (Address.Ten a) (Address.Seven c) k = flip (widths-apart c a)
+  same-prepare (Address.Ten a) (Address.Ten c) k =
+      prefix request-write (puts (λ high. skip (puts (λ low. skip (skip (k (ap Address.Ten (omega arith))))))))
+
+  -- a prepare for a write, and one for a read that begins a seven-bit call
+  write-or-seven : (a : Address) (c : ℕ) (p q : List Step) → Both s P (prepare-write a ++ p) (prepare-read (Address.Seven c) true ++ q)
+  unfolding request-read
+  write-or-seven a c p q = skip (skip (modifies check-or-flag))
+
+  -- a write once prepared, and the second START of a ten-bit call that begins with a read
+  write-or-repeat : (a : Address) (bs : List ℕ) (os : List Operation) (p q : List Step) → Turns Previous.Write os → Both s P (opened a (write bs) os p) (repeat-start ++ q)
+  unfolding polling-steps transfer write-bytes turn turn-read request-read first
+  write-or-repeat a [] [] p q t = modifies (apart (omega arith))
+  write-or-repeat a [] (read n ∷ os) p q t = flip modify-or-wait
+  write-or-repeat a (b ∷ bs) [] p q t = apart (omega arith)
+  write-or-repeat a (b ∷ bs) (read n ∷ os) p q t = apart (omega arith)
+
+  -- so a write and a read that begins a ten-bit call are told apart
+  write-or-ten : (a : Address) (c : ℕ) (bs : List ℕ) (os : List Operation) (p q : List Step) → Turns Previous.Write os
+      → Both s P (prepare-write a ++ opened a (write bs) os p) (prepare-read (Address.Ten c) true ++ q)
+  unfolding request-read
+  write-or-ten a c bs os p q t = same-prepare a (Address.Ten c) (λ e. write-or-repeat a bs os p _ t)
+
 module _ {s : Setup} {P : Type 0} {p q : List Step} where
+  -- the address phases of two reads, and what follows each
+  same-reading : (a c : Address) (m n : ℕ) (os ps : List Operation) → PollingForm (read m ∷ os) → PollingForm (read n ∷ ps)
+      → (first-byte a true ≡ first-byte c true → a ≡ c) → (a ≡ c → _≡_ {A = List Operation} (read m ∷ os) (read n ∷ ps) → Both s P p q)
+      → Both s P (address-read a ++ opened a (read m) os p) (address-read c ++ opened c (read n) ps q)
+  same-reading a c m n os ps f g one k =
+      puts (λ e. let same = one e in skip (skip (rw same (reads c m n os ps (f .0) (g .0) (f .1) (g .1) (k same)))))
+
+  -- the first operations of two polling calls, by their directions and the widths of the addresses, and what follows each
+  same-first : (a c : Address) (o o′ : Operation) (os ps : List Operation) → PollingForm (o ∷ os) → PollingForm (o′ ∷ ps)
+      → (a ≡ c → _≡_ {A = List Operation} (o ∷ os) (o′ ∷ ps) → Both s P p q)
+      → Both s P (turn false a Previous.Nothing o ++ opened a o os p) (turn false c Previous.Nothing o′ ++ opened c o′ ps q)
+  unfolding turn turn-write turn-read request-read
+  same-first a c (write bs) (write cs) os ps f g k = same-prepare a c (λ same. rw same (writes c bs cs os ps (f .0) (g .0) (f .1) (g .1) (k same)))
+  same-first a (Address.Seven c) (write bs) (read n) os ps f g k = write-or-seven a c _ _
+  same-first a (Address.Ten c) (write bs) (read n) os ps f g k = write-or-ten a c bs os _ _ (f .0)
+  same-first (Address.Seven a) c (read m) (write cs) os ps f g k = flip (write-or-seven c a _ _)
+  same-first (Address.Ten a) c (read m) (write cs) os ps f g k = flip (write-or-ten c a cs ps _ _ (g .0))
+  same-first (Address.Seven a) (Address.Ten c) (read m) (read n) os ps f g k = flip (write-or-seven (Address.Ten c) a _ _)
+  same-first (Address.Ten a) (Address.Seven c) (read m) (read n) os ps f g k = write-or-seven (Address.Ten a) c _ _
+  same-first (Address.Seven a) (Address.Seven c) (read m) (read n) os ps f g k =
+      prefix start-read (same-reading (Address.Seven a) (Address.Seven c) m n os ps f g (λ e. ap Address.Seven (omega arith)) k)
+  same-first (Address.Ten a) (Address.Ten c) (read m) (read n) os ps f g k =
+      same-prepare (Address.Ten a) (Address.Ten c) (λ same.
+      prefix repeat-start (same-reading (Address.Ten a) (Address.Ten c) m n os ps f g (λ e. same) k))
+
   -- two polling calls with a common trace have one address and the same reduced operations
-  pub same-polling : (a c : ℕ) (os ps : List Operation) → PollingForm os → PollingForm ps → (a ≡ c → os ≡ ps → Both s P p q)
+  pub same-polling : (a c : Address) (os ps : List Operation) → PollingForm os → PollingForm ps → (a ≡ c → os ≡ ps → Both s P p q)
       → Both s P (polling-steps false a Previous.Nothing os ++ p) (polling-steps false c Previous.Nothing ps ++ q)
-  unfolding polling-steps turn turn-write turn-read
-  same-polling a c (write bs ∷ os) (write cs ∷ ps) f g k =
-      simp append-assoc (skip (skip (skip (skip (skip (puts (λ e. let same : a ≡ c = omega arith in
-      skip (skip (rw same (writes c bs cs os ps (f .0) (g .0) (f .1) (g .1) (k same)))))))))))
-  same-polling a c (write bs ∷ os) (read n ∷ ps) f g k = skip (skip (modifies check-or-flag))
-  same-polling a c (read m ∷ os) (write cs ∷ ps) f g k = skip (skip (modifies (flip check-or-flag)))
-  same-polling a c (read m ∷ os) (read n ∷ ps) f g k =
-      simp append-assoc (skip (skip (skip (skip (skip (puts (λ e. let same : a ≡ c = omega arith in
-      skip (skip (rw same (reads c m n os ps (f .0) (g .0) (f .1) (g .1) (k same)))))))))))
+  same-polling a c (o ∷ os) (o′ ∷ ps) f g k = rw (begins a o os p, begins c o′ ps q) (same-first a c o o′ os ps f g k)
 
 -- Blocking
 

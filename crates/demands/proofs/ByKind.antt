@@ -8,15 +8,16 @@ use mathlib.Core.Logic.{inl, inr}
 use mathlib.Core.List.{List, [], _∷_}
 use borrow.Author.Tests.{ne-eqb}
 use Rattle.units.specs.declared.Setup.{Setup}
+use Rattle.buslist.specs.declared.Address.{Address}
 use Rattle.buslist.specs.declared.CallEntry.{CallEntry}
 use Rattle.buslist.specs.Table.{calls}
 use Rattle.buslist.specs.Form.{kind-right}
-use Rattle.buslist.specs.Meaning.{Operation, call-of}
+use Rattle.buslist.specs.Meaning.{Operation, engine-of, address-number, call-of}
 use Rattle.buslist.specs.Combined.{dropped, gather, joined, combined, read-then-write}
 use Rattle.buslist.specs.Refusal.{any, write-after-read, causes, first-cause, refusal}
 use Rattle.i2c.specs.declared.Previous.{Previous}
 use Rattle.blocking.specs.Blocking.{close-after, blocking-steps}
-use Rattle.engine.specs.Calls.{engine-of, early, operations-steps, performed, steps-of}
+use Rattle.engine.specs.Calls.{early, operations-steps, performed, steps-of}
 use Rattle.engine.proofs.CallLaws.{performed-listed}
 use Rattle.demands.specs.Compare.{is-empty, reduced-operations, idle}
 use Rattle.demands.specs.ByKind.{LeftFor, for-write, for-read, for-write-read, DoneAs, listed-reduced, is-seven, ByKind}
@@ -41,24 +42,24 @@ nothing-left os e = by (dropped os) e
     by (x ∷ xs) e = absurd (false≢true e)
 
 -- it does them as they are left
-done-for : (s : Setup) (a kind : ℕ) (os : List Operation) → LeftFor kind os
-    → blocking-steps s a Previous.Nothing os ≡ operations-steps s (engine-of kind) (early kind) a Previous.Nothing (performed kind os)
+done-for : (s : Setup) (a : Address) (kind : ℕ) (os : List Operation) → LeftFor kind os
+    → blocking-steps s (address-number a) Previous.Nothing os ≡ operations-steps s (engine-of kind) (early kind) a Previous.Nothing (performed kind os)
 unfolding performed engine-of operations-steps
 done-for s a kind os for-write = refl
 done-for s a kind os for-read = refl
 done-for s a kind os for-write-read = refl
 
 -- what is left of operations without a write after a read, by whether anything is
-done-as : (s : Setup) (a : ℕ) (os : List Operation) → Fails (read-then-write (combined os)) → DoneAs s (record { kind = 7; address = a; operations = os })
+done-as : (s : Setup) (a : Address) (os : List Operation) → Fails (read-then-write (combined os)) → DoneAs s (record { kind = 7; address = a; operations = os })
 unfolding steps-of performed engine-of operations-steps blocking-steps close-after
 done-as s a os h = by (is-empty (dropped os)) refl
   where
     by : (b : Bool) → is-empty (dropped os) ≡ b → DoneAs s (record { kind = 7; address = a; operations = os })
-    by true e = let none = nothing-left os e in inl (none, ap (blocking-steps s a Previous.Nothing) none)
+    by true e = let none = nothing-left os e in inl (none, ap (blocking-steps s (address-number a) Previous.Nothing) none)
     by false e = let f = left-for (halves os h (rw e tt)) in inr (f .0, f .1, done-for s a (f .0) (combined os) (f .1))
 
 -- so it is for the calls of kind 7 among those that have the operations of their kind
-seven-shaped : (s : Setup) (a : ℕ) {k : ℕ} {os : List Operation} → Shaped k os → k ≡ 7 → DoneAs s (record { kind = k; address = a; operations = os })
+seven-shaped : (s : Setup) (a : Address) {k : ℕ} {os : List Operation} → Shaped k os → k ≡ 7 → DoneAs s (record { kind = k; address = a; operations = os })
 seven-shaped s a polling-write e = absurd (omega arith)
 seven-shaped s a polling-read e = absurd (omega arith)
 seven-shaped s a polling-write-read e = absurd (omega arith)
@@ -99,10 +100,10 @@ unfolding kind-right refusal causes first-cause steps-of idle
 by-kind =
     record {
       seven-any = λ os. refl;
-      seven-done = λ l rx ok k h e s. seven-shaped s _ (of-kind-at l rx ok k h) e;
+      seven-done = λ l rx ok k h e s. seven-shaped s _ (of-kind-at l rx ok k h .shaped) e;
       other-right = λ kind os h. rw (ne-eqb kind 7 h, or-false);
       other-done = λ s c h. rw (performed-listed (c .kind) (c .operations) h);
       other-idle = λ c h. rw (ne-eqb (c .kind) 7 h, or-false);
-      other-reduced = λ l rx ok k h e. other-shaped (of-kind-at l rx ok k h) e;
+      other-reduced = λ l rx ok k h e. other-shaped (of-kind-at l rx ok k h .shaped) e;
       other-refused = λ l rx e. rw (none-seven l (calls l) e);
     }

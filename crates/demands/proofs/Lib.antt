@@ -9,3 +9,4 @@ pub mod Demand3
 pub mod ByKind
 pub mod Corollaries
 pub mod Witness
+pub mod ByWidth

@@ -11,14 +11,12 @@ use lib.Dec.{eqb}
 use Rattle.buslist.specs.Table.{call-count, operation-count, call-at, operation-at, entries}
 use Rattle.buslist.specs.Form.{has-directions, kind-right}
 use Rattle.buslist.specs.Refusal.{any, empty-blocking, write-after-read, refusal}
-use Rattle.buslist.specs.Meaning.{write, read, Call, operation-of, call-of, calls-of}
+use Rattle.buslist.specs.Meaning.{write, read, Engine, polling, blocking, engine-of, Call, operation-of, address-of, call-of, calls-of}
 use Rattle.buslist.specs.Combined.{combined, read-then-write}
 use Rattle.buslist.proofs.Walk.{one-direction, two-directions}
-use Rattle.buslist.proofs.Accept.{accepted, entry-fails, write-within, call-within, call-operations, call-kind, operation-write, operation-read}
-use Rattle.engine.specs.Calls.{Engine, polling, blocking, engine-of}
+use Rattle.buslist.proofs.Accept.{accepted, entry-fails, write-within, call-within, call-operations, call-kind, blocking-seven, operation-write, operation-read}
 use Rattle.demands.specs.Compare.{polls-empty-read}
-use Rattle.demands.proofs.Shape.{All, none, more, Fails, fails, Shaped, polling-write, polling-read, polling-write-read, transaction, blocking-write, blocking-read, blocking-write-read, blocking-transaction, FullIn, Sound}
-use Rattle.demands.proofs.Reduced.{OfKind}
+use Rattle.demands.proofs.Shape.{All, none, more, Fails, fails, Shaped, polling-write, polling-read, polling-write-read, transaction, blocking-write, blocking-read, blocking-write-read, blocking-transaction, SevenIn, OfKind, FullIn, Sound}
 
 -- a blocking write of some bytes, and a blocking read of a length
 write-shaped : (bs : List ℕ) → 0 < length bs → Shaped 4 (write bs ∷ [])
@@ -79,12 +77,24 @@ unfolding entries
 all-entries P f entry j zero h = none
 all-entries P f entry j (suc n) h = more (h j (omega arith)) (all-entries P f entry (j + 1) n (λ k below. h k (omega arith)))
 
--- call k of an accepted list has the operations of its kind, and so have all
+-- call k of an accepted list has a seven-bit address where it is blocking
+seven-at : (l : List ℕ) (rx : ℕ) → refusal l rx ≡ 0 → (k : ℕ) → k < call-count l → SevenIn (engine-of (call-at l k .kind)) (address-of (call-at l k))
+seven-at l rx ok k h = by (engine-of (call-at l k .kind)) refl
+  where
+    by : (e : Engine) → engine-of (call-at l k .kind) ≡ e → SevenIn e (address-of (call-at l k))
+    by polling e = tt
+    by blocking e = rw (blocking-seven l rx ok k h (rw e)) tt
+
+-- and the operations of its kind; and so have all
 pub of-kind-at : (l : List ℕ) (rx : ℕ) → refusal l rx ≡ 0 → (k : ℕ) → k < call-count l → OfKind (call-of l (call-at l k))
 of-kind-at l rx ok k h =
-    shaped l rx ok _ _ _ (call-kind l rx ok k h) (call-within l rx ok k h) (call-operations l rx ok k h)
-    (entry-fails (empty-blocking l) (call-at l) (call-count l) k (accepted l rx ok .blocking) h)
-    (entry-fails (write-after-read l) (call-at l) (call-count l) k (accepted l rx ok .combined) h)
+    record {
+      shaped =
+          shaped l rx ok _ _ _ (call-kind l rx ok k h) (call-within l rx ok k h) (call-operations l rx ok k h)
+          (entry-fails (empty-blocking l) (call-at l) (call-count l) k (accepted l rx ok .blocking) h)
+          (entry-fails (write-after-read l) (call-at l) (call-count l) k (accepted l rx ok .combined) h);
+      seven = seven-at l rx ok k h;
+    }
 
 pub of-kind : (l : List ℕ) (rx : ℕ) → refusal l rx ≡ 0 → All OfKind (calls-of l)
 of-kind l rx ok = all-entries OfKind _ (call-at l) 0 (call-count l) (λ k below. of-kind-at l rx ok k (omega arith))
@@ -112,4 +122,4 @@ full-of c h = by (engine-of (c .kind)) refl
 -- calls of their kinds that are none of them the exception are sound
 pub sound : {cs : List Call} → All OfKind cs → All (λ c. Fails (polls-empty-read c)) cs → All Sound cs
 sound none none = none
-sound (more {a = c} k ks) (more f fs) = more (record { shaped = k; full = full-of c f }) (sound ks fs)
+sound (more {a = c} k ks) (more f fs) = more (record { of-kind = k; full = full-of c f }) (sound ks fs)

@@ -4,19 +4,20 @@ use Prim.Native.Nat.{ℕ, zero, suc, _+_}
 use native.Mathlib.Omega.{arith}
 use native.Mathlib.Nat.{suc-add}
 use mathlib.Core.Bool.{Bool, false}
-use mathlib.Core.Path.{_≡_, refl, ap₂}
+use mathlib.Core.Path.{_≡_, refl, ap, ap₂}
 use mathlib.Core.List.{List, [], _∷_, _++_, map, flatten, append-assoc}
 use Rattle.units.specs.declared.Setup.{Setup}
-use Rattle.buslist.specs.Meaning.{Operation, write, read, Call}
+use Rattle.buslist.specs.declared.Address.{Address}
+use Rattle.buslist.specs.Meaning.{Operation, write, read, Engine, polling, blocking, engine-of, address-number, Call}
 use Rattle.buslist.specs.Combined.{dropped, gather, joined, combined, read-then-write}
 use Rattle.buslist.proofs.Joining.{read-before}
 use Rattle.registers.specs.Access.{CR1, number}
 use Rattle.registers.specs.Machine.{Step, bring-up, flat, whole-run}
 use Rattle.i2c.specs.declared.Previous.{Previous}
-use Rattle.i2c.specs.Polling.{last-read, turn-write, turn-read, turn, transfer, operation-steps, direction, polling-steps}
-use Rattle.engine.specs.Calls.{Engine, polling, blocking, engine-of, early, operations-steps, performed, steps-of}
+use Rattle.i2c.specs.Polling.{request-read, last-read, turn-write, turn-read, turn, transfer, operation-steps, direction, polling-steps}
+use Rattle.engine.specs.Calls.{early, operations-steps, performed, steps-of}
 use Rattle.demands.specs.Compare.{Reduced, is-empty, reduced-operations, reduced, idle, ends-empty}
-use Rattle.demands.proofs.Shape.{All, none, more, Fails, Shaped, polling-write, polling-read, polling-write-read, transaction, blocking-write, blocking-read, blocking-write-read, blocking-transaction, Full, FullIn, Sound, longer, rewritten}
+use Rattle.demands.proofs.Shape.{All, none, more, Fails, Shaped, polling-write, polling-read, polling-write-read, transaction, blocking-write, blocking-read, blocking-write-read, blocking-transaction, SevenIn, OfKind, Full, FullIn, Sound, longer, rewritten}
 use Rattle.demands.proofs.Same.{reduced-steps, reduces-all}
 use Rattle.demands.proofs.Trace.{goes-trace, Both, first, make, weaken, pair, apart, flip, prefix, failing}
 use Rattle.demands.proofs.Apart.{Turns, PollingForm, same-polling, Tail, Halves, opens-half, not-none, not-control, same-blocking}
@@ -28,43 +29,49 @@ Form polling os = PollingForm os
 Form blocking os = Halves os
 
 abbrev Formed : Reduced → Type 0
-Formed r = Form (r .engine) (r .operations)
+Formed r = Form (r .engine) (r .operations) × SevenIn (r .engine) (r .address)
 
 -- a polling call begins with a CR1 read
-first-polling : (a : ℕ) (os : List Operation) (p : List Step) → PollingForm os → first (polling-steps false a Previous.Nothing os ++ p) ≡ CR1
-unfolding polling-steps turn turn-write turn-read first
+first-polling : (a : Address) (os : List Operation) (p : List Step) → PollingForm os → first (polling-steps false a Previous.Nothing os ++ p) ≡ CR1
+unfolding polling-steps turn turn-write turn-read request-read first
 first-polling a (write bs ∷ os) p h = refl
-first-polling a (read n ∷ os) p h = refl
+first-polling (Address.Seven a) (read n ∷ os) p h = refl
+first-polling (Address.Ten a) (read n ∷ os) p h = refl
+
+-- seven-bit addresses of one number
+same-seven : (a c : Address) → SevenIn blocking a → SevenIn blocking c → address-number a ≡ address-number c → a ≡ c
+same-seven (Address.Seven a) (Address.Seven c) h j e = ap Address.Seven e
 
 module _ {s : Setup} {P : Type 0} {p q : List Step} where
   -- two calls with a common trace are one reduced call
-  same-call : (e f : Engine) (a c : ℕ) (os ps : List Operation) → Form e os → Form f ps → (e ≡ f → a ≡ c → os ≡ ps → Both s P p q)
+  same-call : (e f : Engine) (a c : Address) (os ps : List Operation) → Form e os × SevenIn e a → Form f ps × SevenIn f c → (e ≡ f → a ≡ c → os ≡ ps → Both s P p q)
       → Both s P (operations-steps s e false a Previous.Nothing os ++ p) (operations-steps s f false c Previous.Nothing ps ++ q)
   unfolding operations-steps
-  same-call polling polling a c os ps h j k = same-polling a c os ps h j (k refl)
-  same-call polling blocking a c os ps h j k = apart (rw (first-polling a os p h) (not-control (opens-half s c Previous.Nothing q j)))
-  same-call blocking polling a c os ps h j k = flip (apart (rw (first-polling c ps q j) (not-control (opens-half s a Previous.Nothing p h))))
-  same-call blocking blocking a c os ps h j k = same-blocking a c h j (k refl)
+  same-call polling polling a c os ps h j k = same-polling a c os ps (h .0) (j .0) (k refl)
+  same-call polling blocking a c os ps h j k = apart (rw (first-polling a os p (h .0)) (not-control (opens-half s (address-number c) Previous.Nothing q (j .0))))
+  same-call blocking polling a c os ps h j k = flip (apart (rw (first-polling c ps q (j .0)) (not-control (opens-half s (address-number a) Previous.Nothing p (h .0)))))
+  same-call blocking blocking a c os ps h j k =
+      same-blocking (address-number a) (address-number c) (h .0) (j .0) (λ e. k refl (same-seven a c (h .1) (j .1) e))
 
 -- a call makes an access
-makes-access : {s : Setup} {P : Type 0} (e : Engine) (a : ℕ) (os : List Operation) (q : List Step) → Form e os → Both s P [] (operations-steps s e false a Previous.Nothing os ++ q)
+makes-access : {s : Setup} {P : Type 0} (e : Engine) (a : Address) (os : List Operation) (q : List Step) → Form e os → Both s P [] (operations-steps s e false a Previous.Nothing os ++ q)
 unfolding operations-steps first
 makes-access polling a os q h = apart (rw (first-polling a os q h) (omega arith))
-makes-access {s} blocking a os q h = apart (not-none (opens-half s a Previous.Nothing q h))
+makes-access {s} blocking a os q h = apart (not-none (opens-half s (address-number a) Previous.Nothing q h))
 
 -- reduced calls with a common trace are equal
 same-reduced : (s : Setup) {rs ts : List Reduced} → All Formed rs → All Formed ts
     → Both s (rs ≡ ts) (flatten (map (reduced-steps s) rs)) (flatten (map (reduced-steps s) ts))
 unfolding reduced-steps flatten
 same-reduced s none none = make (λ l g h. refl)
-same-reduced s none (more {a = t} h hs) = makes-access (t .engine) (t .address) (t .operations) _ h
-same-reduced s (more {a = r} h hs) none = flip (makes-access (r .engine) (r .address) (r .operations) _ h)
+same-reduced s none (more {a = t} h hs) = makes-access (t .engine) (t .address) (t .operations) _ (h .0)
+same-reduced s (more {a = r} h hs) none = flip (makes-access (r .engine) (r .address) (r .operations) _ (h .0))
 same-reduced s (more {a = r} h hs) (more {a = t} j js) =
     same-call (r .engine) (t .engine) (r .address) (t .address) (r .operations) (t .operations) h j
     (λ e f g. weaken (λ es. ap₂ _∷_ (λ i. record { engine = e i; address = f i; operations = g i }) es) (same-reduced s hs js))
 
 -- a last operation that is an empty read ends the call badly
-full-polling : {s : Setup} (early : Bool) (a : ℕ) (previous : Previous) (os : List Operation) (p : List Step)
+full-polling : {s : Setup} (early : Bool) (a : Address) (previous : Previous) (os : List Operation) (p : List Step)
     → Both s (Full os) (polling-steps early a previous os ++ p) (polling-steps early a previous os ++ p)
 unfolding polling-steps transfer last-read ends-empty
 full-polling early a previous [] p = make (λ l g h. tt)
@@ -76,7 +83,7 @@ full-polling early a previous (o ∷ (o′ ∷ os)) p =
     (prefix (operation-steps early a previous false o) (full-polling early a (direction o) (o′ ∷ os) p))
 
 -- so calls with a trace do not end in an empty read, where they are polling
-full-in : {s : Setup} (a : ℕ) {k : ℕ} {os : List Operation} (p : List Step) → Shaped k os
+full-in : {s : Setup} (a : Address) {k : ℕ} {os : List Operation} (p : List Step) → Shaped k os
     → let steps = operations-steps s (engine-of k) (early k) a Previous.Nothing (performed k os) in Both s (FullIn (engine-of k) os) (steps ++ p) (steps ++ p)
 unfolding operations-steps performed engine-of
 full-in a p polling-write = full-polling _ a Previous.Nothing _ p
@@ -88,17 +95,13 @@ full-in a p blocking-read = make (λ l g h. tt)
 full-in a p blocking-write-read = make (λ l g h. tt)
 full-in a p (blocking-transaction r) = make (λ l g h. tt)
 
--- the operations of a call are those of its kind
-abbrev pub OfKind : Call → Type 0
-OfKind c = Shaped (c .kind) (c .operations)
-
 -- calls with a trace are sound
 all-sound : (s : Setup) {cs : List Call} → All OfKind cs → Both s (All Sound cs) (flatten (map (steps-of s) cs)) (flatten (map (steps-of s) cs))
 unfolding steps-of flatten
 all-sound s none = make (λ l g h. none)
 all-sound s (more {a = c} {rest = cs} h hs) =
-    weaken (λ fs. more (record { shaped = h; full = fs .0 }) (fs .1))
-    (pair (full-in (c .address) _ h) (prefix (steps-of s c) (all-sound s hs)))
+    weaken (λ fs. more (record { of-kind = h; full = fs .0 }) (fs .1))
+    (pair (full-in (c .address) _ (h .shaped)) (prefix (steps-of s c) (all-sound s hs)))
 
 -- joined operations turn the direction each
 mutual
@@ -165,7 +168,7 @@ abbrev pub Busy : Call → Type 0
 Busy c = Fails (idle c)
 
 -- the operations of a reduced call have the form of its engine, by the kind
-formed-by : (a : ℕ) {k : ℕ} {os : List Operation} → Shaped k os → FullIn (engine-of k) os → Fails (idle (record { kind = k; address = a; operations = os }))
+formed-by : (a : Address) {k : ℕ} {os : List Operation} → Shaped k os → FullIn (engine-of k) os → Fails (idle (record { kind = k; address = a; operations = os }))
     → Form (engine-of k) (reduced-operations (engine-of k) os)
 unfolding engine-of reduced-operations joined dropped gather idle
 formed-by a (polling-write {bs}) f b = gather-form (write bs) [] f
@@ -185,7 +188,7 @@ formed-by a (blocking-transaction {os} r) f b = halves os r b
 formed : {cs : List Call} → All Sound cs → All Busy cs → All Formed (map reduced cs)
 unfolding reduced
 formed none none = none
-formed (more {a = c} h hs) (more b bs) = more (formed-by (c .address) (h .shaped) (h .full) b) (formed hs bs)
+formed (more {a = c} h hs) (more b bs) = more (formed-by (c .address) (h .of-kind .shaped) (h .full) b, h .of-kind .seven) (formed hs bs)
 
 module _ (s : Setup) (cs ds : List Call) (kc : All OfKind cs) (kd : All OfKind ds) (bc : All Busy cs) (bd : All Busy ds) where
   -- calls with a common trace have equal reduced calls

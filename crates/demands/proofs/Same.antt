@@ -6,13 +6,14 @@ use mathlib.Core.Bool.{Bool, true, false}
 use mathlib.Core.Path.{_≡_, refl, ap₂, _∙_}
 use mathlib.Core.List.{List, [], _∷_, _++_, map, append-assoc}
 use Rattle.units.specs.declared.Setup.{Setup}
-use Rattle.buslist.specs.Meaning.{Operation, write, read, Call}
+use Rattle.buslist.specs.declared.Address.{Address}
+use Rattle.buslist.specs.Meaning.{Operation, write, read, engine-of, address-number, Call}
 use Rattle.buslist.specs.Combined.{dropped, gather, joined, combined}
 use Rattle.registers.specs.Machine.{Step}
 use Rattle.i2c.specs.declared.Previous.{Previous}
 use Rattle.i2c.specs.Polling.{write-bytes, read-bytes, last-read, turn-write, turn-read, turn, transfer, is-last, polling-steps}
 use Rattle.blocking.specs.Blocking.{write-without-stop, read-steps, blocking-steps}
-use Rattle.engine.specs.Calls.{engine-of, early, operations-steps, performed, steps-of}
+use Rattle.engine.specs.Calls.{early, operations-steps, performed, steps-of}
 use Rattle.demands.specs.Compare.{Reduced, reduced-operations, reduced, ends-empty}
 use Rattle.demands.proofs.Shape.{All, none, more, Shaped, polling-write, polling-read, polling-write-read, transaction, blocking-write, blocking-read, blocking-write-read, blocking-transaction, Full, FullIn, Sound, longer, rewritten}
 
@@ -50,7 +51,7 @@ gather-last (read m) (write cs ∷ os) = refl
 gather-last (read m) (read n ∷ os) = gather-last (read (m + n)) os
 
 -- gathered operations do what they did
-gather-steps : (a : ℕ) (previous : Previous) (o : Operation) (os : List Operation) → Full (o ∷ os) → polling-steps false a previous (o ∷ os) ≡ polling-steps false a previous (gather o os)
+gather-steps : (a : Address) (previous : Previous) (o : Operation) (os : List Operation) → Full (o ∷ os) → polling-steps false a previous (o ∷ os) ≡ polling-steps false a previous (gather o os)
 unfolding gather polling-steps turn turn-write turn-read transfer ends-empty
 gather-steps a previous o [] h = refl
 gather-steps a previous (write bs) (write cs ∷ os) h =
@@ -74,13 +75,13 @@ unfoldable pub reduced-steps : Setup → Reduced → List Step
 reduced-steps s r = operations-steps s (r .engine) false (r .address) Previous.Nothing (r .operations)
 
 -- joined operations do what they did
-joined-steps : (a : ℕ) (os : List Operation) → Full os → polling-steps false a Previous.Nothing os ≡ polling-steps false a Previous.Nothing (joined os)
+joined-steps : (a : Address) (os : List Operation) → Full os → polling-steps false a Previous.Nothing os ≡ polling-steps false a Previous.Nothing (joined os)
 unfolding joined
 joined-steps a [] h = refl
 joined-steps a (o ∷ os) h = gather-steps a Previous.Nothing o os h
 
 -- reduced operations do what they did, by the kind
-shaped-steps : (s : Setup) (a : ℕ) {k : ℕ} {os : List Operation} → Shaped k os → FullIn (engine-of k) os
+shaped-steps : (s : Setup) (a : Address) {k : ℕ} {os : List Operation} → Shaped k os → FullIn (engine-of k) os
     → operations-steps s (engine-of k) (early k) a Previous.Nothing (performed k os) ≡ operations-steps s (engine-of k) false a Previous.Nothing (reduced-operations (engine-of k) os)
 unfolding operations-steps performed reduced-operations engine-of early joined dropped gather polling-steps turn ends-empty
 shaped-steps s a polling-write h = refl
@@ -89,13 +90,13 @@ shaped-steps s a (polling-write-read {n = suc n}) h = refl
 shaped-steps s a (transaction {os}) h = joined-steps a os h
 shaped-steps s a blocking-write h = refl
 shaped-steps s a blocking-read h = refl
-shaped-steps s a (blocking-write-read {bs} {n}) h = halves-steps s a bs n
+shaped-steps s a (blocking-write-read {bs} {n}) h = halves-steps s (address-number a) bs n
 shaped-steps s a (blocking-transaction r) h = refl
 
 -- a sound call does what its reduced call does
 reduces : (s : Setup) (c : Call) → Sound c → steps-of s c ≡ reduced-steps s (reduced c)
 unfolding steps-of reduced reduced-steps
-reduces s c h = shaped-steps s (c .address) (h .shaped) (h .full)
+reduces s c h = shaped-steps s (c .address) (h .of-kind .shaped) (h .full)
 
 pub reduces-all : (s : Setup) {cs : List Call} → All Sound cs → map (steps-of s) cs ≡ map (reduced-steps s) (map reduced cs)
 reduces-all s none = refl

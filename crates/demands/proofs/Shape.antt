@@ -6,9 +6,9 @@ use native.Mathlib.Omega.{arith}
 use mathlib.Core.Bool.{Bool, true, false}
 use mathlib.Core.Path.{_≡_}
 use mathlib.Core.List.{List, [], _∷_}
-use Rattle.buslist.specs.Meaning.{Operation, write, read, Call}
+use Rattle.buslist.specs.declared.Address.{Address}
+use Rattle.buslist.specs.Meaning.{Operation, write, read, Engine, polling, blocking, engine-of, Call}
 use Rattle.buslist.specs.Combined.{combined, read-then-write}
-use Rattle.engine.specs.Calls.{Engine, polling, blocking, engine-of}
 use Rattle.demands.specs.Compare.{ends-empty}
 
 -- each of a list
@@ -36,6 +36,17 @@ pub data Shaped : ℕ → List Operation → Type 0 where
   blocking-write-read : {bs : List ℕ} {n : ℕ} → Shaped 6 (write bs ∷ read n ∷ [])
   blocking-transaction : {os : List Operation} → Fails (read-then-write (combined os)) → Shaped 7 os
 
+-- a blocking call has a seven-bit address
+abbrev pub SevenIn : Engine → Address → Type 0
+SevenIn polling a = Unit {0}
+SevenIn blocking (Address.Seven a) = Unit {0}
+SevenIn blocking (Address.Ten a) = ⊥
+
+-- a call has the operations of its kind, and an address of a width that its engine takes
+pub record OfKind (c : Call) : Type 0 where
+  pub shaped : Shaped (c .kind) (c .operations)
+  pub seven : SevenIn (engine-of (c .kind)) (c .address)
+
 -- the last operation is no empty read
 abbrev pub Full : List Operation → Type 0
 Full os = Fails (ends-empty os)
@@ -46,7 +57,7 @@ FullIn blocking os = Unit {0}
 
 -- a call of its kind that is no polling call ending in an empty read
 pub record Sound (c : Call) : Type 0 where
-  pub shaped : Shaped (c .kind) (c .operations)
+  pub of-kind : OfKind c
   pub full : FullIn (engine-of (c .kind)) (c .operations)
 
 -- a longer read is no empty one

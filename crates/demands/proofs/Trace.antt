@@ -14,8 +14,8 @@ use Rattle.registers.specs.declared.Bits.{Bits}
 use Rattle.registers.specs.declared.Flagged.{Flagged}
 use Rattle.registers.specs.declared.Awaited.{Awaited}
 use Rattle.registers.specs.Word.{has, SB, BERR, STOP}
-use Rattle.registers.specs.Access.{CYC, wCR1, wSR1, Access, code-of as access-code, Ending, number}
-use Rattle.registers.specs.Machine.{Step, Handler, Act, access, next, check-word, after-check, poll-word, poll-error, poll-ready, after-poll, handle, stop-for, since}
+use Rattle.registers.specs.Access.{SR1, CYC, wCR1, wSR1, Access, code-of as access-code, Ending, number}
+use Rattle.registers.specs.Machine.{Step, Handler, Act, clear, access, next, check-word, after-check, poll-word, poll-error, poll-ready, after-poll, handle, stop-for, since}
 use Rattle.engine.proofs.Goes.{Goes, done, halted, full, lacks, wrote, took, error-number}
 
 -- an entry is of the access that a step makes
@@ -139,19 +139,19 @@ module _ {s : Setup} {P : Type 0} where
       go : (l : List Entry) → Trace s l (i ∷ p) → Trace s l (j ∷ q) → P
       go (m ∷ l) g h = b l (record { so = go l }) (m .value) .so (g .1) (h .1)
 
-  -- the same for two pairs of steps that lead to one another
-  pub on-both : {i j i′ j′ : Step} {p q : List Step}
-      → ((l : List Entry) → At s P l (i′ ∷ p) (j′ ∷ q) → (v : ℕ) → At s P l (next s i v ++ p) (next s j v ++ q))
-      → ((l : List Entry) → At s P l (i ∷ p) (j ∷ q) → (v : ℕ) → At s P l (next s i′ v ++ p) (next s j′ v ++ q))
+  -- the same for two pairs of programs that lead to each other
+  pub on-both : {i j i′ j′ : Step} {p q p′ q′ : List Step}
+      → ((l : List Entry) → At s P l (i ∷ p) (j ∷ q) → At s P l (i′ ∷ p′) (j′ ∷ q′) → (v : ℕ) → At s P l (next s i v ++ p) (next s j v ++ q))
+      → ((l : List Entry) → At s P l (i ∷ p) (j ∷ q) → At s P l (i′ ∷ p′) (j′ ∷ q′) → (v : ℕ) → At s P l (next s i′ v ++ p′) (next s j′ v ++ q′))
       → Both s P (i ∷ p) (j ∷ q)
   unfolding Trace
-  on-both {i} {j} {i′} {j′} {p} {q} b b′ = record { at = λ l. go l .0 }
+  on-both {i} {j} {i′} {j′} {p} {q} {p′} {q′} b b′ = record { at = λ l. go l .0 }
     where
-      go : (l : List Entry) → At s P l (i ∷ p) (j ∷ q) × At s P l (i′ ∷ p) (j′ ∷ q)
+      go : (l : List Entry) → At s P l (i ∷ p) (j ∷ q) × At s P l (i′ ∷ p′) (j′ ∷ q′)
       go [] = (record { so = λ g. absurd g }, record { so = λ g. absurd g })
       go (m ∷ l) = (
-        record { so = λ g h. b l (go l .1) (m .value) .so (g .1) (h .1) },
-        record { so = λ g h. b′ l (go l .0) (m .value) .so (g .1) (h .1) },
+        record { so = λ g h. b l (go l .0) (go l .1) (m .value) .so (g .1) (h .1) },
+        record { so = λ g h. b′ l (go l .0) (go l .1) (m .value) .so (g .1) (h .1) },
       )
 
 -- a handler that ends the call
@@ -194,6 +194,28 @@ module _ {s : Setup} {P : Type 0} where
       then Flagged.Nothing false true l rec = here l (apart (omega arith))
       then Flagged.Nothing false false l rec = rec
 
+  -- checks until two flags, after which the first accesses differ and neither reads SR1
+  pub checks : {f g : ℕ} {n : Source} {p q : List Step} → (first p ≡ first q → ⊥) → (first p ≡ SR1 → ⊥) → (first q ≡ SR1 → ⊥)
+      → Both s P (Step.check f n ∷ p) (Step.check g n ∷ q)
+  unfolding next first after-check
+  checks {f} {g} {n} {p} {q} pq ps qs =
+      on-both
+      (λ l rec cleared v. then (check-word n v) (has BERR v) (has f v) (has g v) l rec cleared)
+      (λ l rec cleared v. rec)
+    where
+      then : (c : Flagged) (berr b b′ : Bool) (l : List Entry) → At s P l (Step.check f n ∷ p) (Step.check g n ∷ q)
+          → At s P l (clear BusError.Bus ∷ Step.check f n ∷ p) (clear BusError.Bus ∷ Step.check g n ∷ q)
+          → At s P l (after-check c berr (cond b [] (Step.check f n ∷ [])) ++ p) (after-check c berr (cond b′ [] (Step.check g n ∷ [])) ++ q)
+      then (Flagged.Error e) berr b b′ l rec cleared = here l (traceless (skip failing))
+      then Flagged.Nothing true true true l rec cleared = here l (skip (apart pq))
+      then Flagged.Nothing true true false l rec cleared = here l (skip (apart ps))
+      then Flagged.Nothing true false true l rec cleared = here l (skip (apart (λ e. qs (sym e))))
+      then Flagged.Nothing true false false l rec cleared = cleared
+      then Flagged.Nothing false true true l rec cleared = here l (apart pq)
+      then Flagged.Nothing false true false l rec cleared = here l (apart ps)
+      then Flagged.Nothing false false true l rec cleared = here l (apart (λ e. qs (sym e)))
+      then Flagged.Nothing false false false l rec cleared = rec
+
   -- timed waits for two flags, after which the first accesses differ and neither reads the counter
   pub waits : {f g : ℕ} {n : Source} {c : ℕ} {h : Handler} {p q : List Step} → Ends h
       → (first p ≡ first q → ⊥) → (first p ≡ CYC → ⊥) → (first q ≡ CYC → ⊥)
@@ -201,8 +223,8 @@ module _ {s : Setup} {P : Type 0} where
   unfolding next after-poll poll-error poll-ready first
   waits {f} {g} {n} {c} {h} {p} {q} end pq pc qc =
       on (λ l rec t. here l (on-both
-      (λ l rec v. polled t (poll-word n v) (has f v) (has g v) l rec)
-      (λ l rec v. late t (leb c (since t v)) l rec)))
+      (λ l rec later v. polled t (poll-word n v) (has f v) (has g v) l later)
+      (λ l rec later v. late t (leb c (since t v)) l rec)))
     where
       polled : (t : ℕ) (w : Flagged) (b b′ : Bool) (l : List Entry)
           → At s P l (Step.late (Awaited.Flag f n) c h t ∷ p) (Step.late (Awaited.Flag g n) c h t ∷ q)

@@ -3,15 +3,18 @@
 -- Assumes nothing.
 use Prim.Native.Nat.{ℕ}
 use native.Mathlib.Omega.{arith}
-use mathlib.Core.Bool.{true, false}
+use mathlib.Core.Bool.{true, false, cond}
 use mathlib.Core.Path.{_≡_, refl, ap}
 use mathlib.Core.List.{List, [], _∷_, _++_}
 use lib.ListN.{length}
+use lib.Dec.{eqb}
+use Rattle.buslist.specs.declared.Address.{Address}
 use Rattle.buslist.specs.Bytes.{byte}
 use Rattle.buslist.specs.Refusal.{any}
-use Rattle.buslist.specs.Meaning.{Operation, write, read, Call, calls-of}
+use Rattle.buslist.specs.Meaning.{Operation, write, read, address-width, Call, calls-of}
 use Rattle.buslist.specs.Encode.{encode}
-use Rattle.registers.specs.Access.{record-of, received-of}
+use Rattle.registers.specs.declared.Entry.{Entry}
+use Rattle.registers.specs.Access.{wDR, record-of, received-of}
 use Rattle.registers.specs.Machine.{poll-word, start, poll-error, poll-ready, after-poll, flat}
 use Rattle.i2c.specs.Polling.{read-bytes}
 use Rattle.blocking.specs.Blocking.{later-bytes, write-bytes-and-wait, write-without-stop, receive-bytes, read-arm, read-steps, close-after, blocking-steps}
@@ -83,6 +86,36 @@ blocking-two = call-to 5 (read 2 ∷ [])
 abbrev blocking-both : Call
 blocking-both = call-to 6 (write (1 ∷ 2 ∷ []) ∷ read 1 ∷ [])
 
+-- a call to a ten-bit address: a transaction of the writes 1 and 2, and a write of both
+abbrev ten-to : ℕ → List Operation → Call
+ten-to kind os = record { kind = kind; address = Address.Ten 0x150; operations = os }
+
+abbrev ten-writes : Call
+ten-writes = ten-to 3 (write (1 ∷ []) ∷ write (2 ∷ []) ∷ [])
+
+abbrev ten-write : Call
+ten-write = ten-to 0 (write (1 ∷ 2 ∷ []) ∷ [])
+
+-- a transaction that begins with a read, in two, and a read of both bytes
+abbrev ten-reads : Call
+ten-reads = ten-to 3 (read 1 ∷ read 1 ∷ [])
+
+abbrev ten-read : Call
+ten-read = ten-to 1 (read 2 ∷ [])
+
+-- a write of 05 to the seven-bit 78 hex, an empty write to the ten-bit 005, whose header is the same byte F0, and a write of 05 to the ten-bit 000
+abbrev write-to : Address → List ℕ → Call
+write-to a bytes = record { kind = 0; address = a; operations = write bytes ∷ [] }
+
+abbrev seven-five : Call
+seven-five = write-to (Address.Seven 0x78) (5 ∷ [])
+
+abbrev ten-five : Call
+ten-five = write-to (Address.Ten 5) []
+
+abbrev ten-zero : Call
+ten-zero = write-to (Address.Ten 0) (5 ∷ [])
+
 -- the idle calls: a transaction without operations, a blocking write_read with both halves empty, and a kind 7 call with nothing left
 abbrev no-operations : Call
 no-operations = call-to 3 []
@@ -119,9 +152,24 @@ abbrev timed-both : List ℕ
 timed-both =
     1 ∷ 0 ∷ 1 ∷ 1 ∷ 0 ∷ 2 ∷ 2 ∷ 7 ∷ 0 ∷ 0x80 ∷ 0 ∷ 0x84 ∷ 1 ∷ 0 ∷ 1 ∷ 1 ∷ 0 ∷ 2 ∷ 1 ∷ 2 ∷ 7 ∷ 1 ∷ 0 ∷ 0x40 ∷ 0x2a ∷ 0 ∷ 1 ∷ 1 ∷ []
 
+-- of a ten-bit write and a ten-bit read, and of a write of one byte or none to an address of either width
+abbrev ten-polled : List ℕ
+ten-polled = 1 ∷ 1 ∷ 1 ∷ 1 ∷ 3 ∷ 8 ∷ 2 ∷ 7 ∷ 0x80 ∷ 0x84 ∷ 0x80 ∷ 0x84 ∷ 1 ∷ 1 ∷ []
+
+abbrev ten-turned : List ℕ
+ten-turned = 1 ∷ 1 ∷ 1 ∷ 1 ∷ 3 ∷ 8 ∷ 2 ∷ 7 ∷ 1 ∷ 1 ∷ 2 ∷ 2 ∷ 7 ∷ 0x40 ∷ 0x40 ∷ 0x2a ∷ 1 ∷ 0x40 ∷ 0x40 ∷ 0x2b ∷ 1 ∷ []
+
+abbrev either-width : List ℕ
+either-width = 1 ∷ 1 ∷ 1 ∷ 1 ∷ 3 ∷ 0x0a ∷ 2 ∷ 0x80 ∷ 0x84 ∷ 0x84 ∷ 1 ∷ 1 ∷ []
+
+-- the bytes that a log has written to DR
+unfoldable pub sent : List Entry → List ℕ
+sent [] = []
+sent (e ∷ es) = cond (eqb (e .code) wDR) (e .value ∷ sent es) (sent es)
+
 -- names all that these compute by
 computed-by : List ℕ → List ℕ → ℕ
-unfolding computed ran reduced-operations reduced idle ends-empty polls-empty-read read-bytes poll-word poll-error poll-ready after-poll start blocking-steps later-bytes write-bytes-and-wait write-without-stop receive-bytes read-arm read-steps close-after
+unfolding computed ran sent reduced-operations reduced idle ends-empty polls-empty-read read-bytes poll-word poll-error poll-ready after-poll start blocking-steps later-bytes write-bytes-and-wait write-without-stop receive-bytes read-arm read-steps close-after
 computed-by l readings = run l readings 0 100 .answer
 
 -- two unlike lists that are compared, with equal reduced calls, and a received buffer of rx bytes
@@ -188,10 +236,21 @@ pub record Witness : Type 0 where
   pub read-bytes : received-of (flat (run (alone combined-read) (0 ∷ timed-read) 2 100 .log)) ≡ 0x2a ∷ 0x2b ∷ []
   pub write-read-pair : Alike (alone combined-both) (alone blocking-both) 1
   pub write-read-ends : EndWell (alone combined-both) (alone blocking-both) 1 (0 ∷ timed-both)
+  -- ten-bit calls: writes, and reads with the bytes
+  pub ten-pair : Alike (alone ten-writes) (alone ten-write) 0
+  pub ten-ends : EndWell (alone ten-writes) (alone ten-write) 0 (0 ∷ ten-polled)
+  pub ten-read-pair : Alike (alone ten-reads) (alone ten-read) 2
+  pub ten-read-ends : EndWell (alone ten-reads) (alone ten-read) 2 (0 ∷ ten-turned)
+  pub ten-read-bytes : received-of (flat (run (alone ten-reads) (0 ∷ ten-turned) 2 100 .log)) ≡ 0x2a ∷ 0x2b ∷ []
   -- one pair for each engine that its records tell apart, and two calls of kind 7
   pub polling-unlike : Unlike (alone one-write) (alone other-write) 0 (0 ∷ polled)
   pub blocking-unlike : Unlike (alone blocking-one) (alone blocking-other) 0 (0 ∷ timed)
   pub combined-unlike : Unlike (alone combined-write) (alone combined-other) 0 (0 ∷ timed)
+  -- calls of different widths that begin with the same byte: with the same bytes sent, and with the same operations
+  pub width-unlike : Unlike (alone seven-five) (alone ten-five) 0 (0 ∷ either-width)
+  pub seven-sent : sent (flat (run (alone seven-five) (0 ∷ either-width) 0 100 .log)) ≡ 0xf0 ∷ 5 ∷ []
+  pub ten-sent : sent (flat (run (alone ten-five) (0 ∷ either-width) 0 100 .log)) ≡ 0xf0 ∷ 5 ∷ []
+  pub same-operations : Unlike (alone seven-five) (alone ten-zero) 0 (0 ∷ either-width)
   -- why no call may be idle: for each idle call, a list with it and one without
   pub idle-transaction : NotTold (list-of (one-write ∷ no-operations ∷ [])) (alone one-write) (0 ∷ polled)
   pub idle-write-read : NotTold (list-of (one-write ∷ empty-halves ∷ [])) (alone one-write) (0 ∷ polled)
@@ -211,26 +270,31 @@ alike kinds same busy busy′ accepted accepted′ calls =
       equal-calls = calls;
     }
 
--- the bytes of a first operation
+-- the second byte of a first operation
 abbrev bytes-of : List Operation → List ℕ
 bytes-of [] = []
 bytes-of (write bs ∷ os) = bs
 bytes-of (read n ∷ os) = []
 
-abbrev first-bytes : List Reduced → List ℕ
-first-bytes [] = []
-first-bytes (c ∷ cs) = bytes-of (c .operations)
+abbrev second-byte : List Reduced → ℕ
+second-byte [] = 0
+second-byte (c ∷ cs) = byte (bytes-of (c .operations)) 1
 
--- lists whose first operations have another second byte have unlike reduced calls
-unlike : {l m : List ℕ} {rx : ℕ} {readings : List ℕ} → (byte (first-bytes (reduced-calls l)) 1 ≡ byte (first-bytes (reduced-calls m)) 1 → ⊥)
+-- the width of a first address
+abbrev first-width : List Reduced → ℕ
+first-width [] = 0
+first-width (c ∷ cs) = address-width (c .address)
+
+-- lists of which this number differs have unlike reduced calls
+unlike : {l m : List ℕ} {rx : ℕ} {readings : List ℕ} (what : List Reduced → ℕ) → (what (reduced-calls l) ≡ what (reduced-calls m) → ⊥)
     → settings-words l ≡ settings-words m → any idle (calls-of l) ≡ false → any idle (calls-of m) ≡ false
     → Accepted l rx → Accepted m rx → run l readings rx 100 .answer ≡ 0 → run m readings rx 100 .answer ≡ 0 → Unlike l m rx readings
-unlike bytes same busy busy′ accepted accepted′ ends ends′ =
+unlike what differs same busy busy′ accepted accepted′ ends ends′ =
     record {
       comparable = record { settings = same; busy = busy; busy′ = busy′ };
       accepted = accepted;
       accepted′ = accepted′;
-      unlike-calls = λ e. bytes (ap (λ cs. byte (first-bytes cs) 1) e);
+      unlike-calls = λ e. differs (ap what e);
       ends = ends;
       ends′ = ends′;
     }
@@ -272,9 +336,18 @@ witness =
       read-bytes = refl;
       write-read-pair = alike (omega arith) refl refl refl refl refl refl;
       write-read-ends = record { full = refl; full′ = refl; ends = refl; ends′ = refl };
-      polling-unlike = unlike (omega arith) refl refl refl refl refl refl refl;
-      blocking-unlike = unlike (omega arith) refl refl refl refl refl refl refl;
-      combined-unlike = unlike (omega arith) refl refl refl refl refl refl refl;
+      ten-pair = alike (omega arith) refl refl refl refl refl refl;
+      ten-ends = record { full = refl; full′ = refl; ends = refl; ends′ = refl };
+      ten-read-pair = alike (omega arith) refl refl refl refl refl refl;
+      ten-read-ends = record { full = refl; full′ = refl; ends = refl; ends′ = refl };
+      ten-read-bytes = refl;
+      polling-unlike = unlike second-byte (omega arith) refl refl refl refl refl refl refl;
+      blocking-unlike = unlike second-byte (omega arith) refl refl refl refl refl refl refl;
+      combined-unlike = unlike second-byte (omega arith) refl refl refl refl refl refl refl;
+      width-unlike = unlike first-width (omega arith) refl refl refl refl refl refl refl;
+      seven-sent = refl;
+      ten-sent = refl;
+      same-operations = unlike first-width (omega arith) refl refl refl refl refl refl refl;
       idle-transaction = not-told (omega arith) refl refl refl refl refl refl refl refl;
       idle-write-read = not-told (omega arith) refl refl refl refl refl refl refl refl;
       idle-combined = not-told (omega arith) refl refl refl refl refl refl refl refl;

@@ -11,11 +11,11 @@ use Rattle.buslist.specs.declared.CallEntry.{CallEntry}
 use Rattle.buslist.specs.declared.OperationEntry.{OperationEntry}
 use Rattle.buslist.specs.Table.{call-count, call-at, calls}
 use Rattle.buslist.specs.Form.{has-directions, kind-right}
-use Rattle.buslist.specs.Meaning.{Operation, write, read, Call, call-of}
+use Rattle.buslist.specs.Meaning.{Operation, write, read, Engine, polling, blocking, engine-of, Call, call-of}
 use Rattle.buslist.specs.Combined.{dropped, joined, combined}
 use Rattle.buslist.specs.Refusal.{any, causes, first-cause, refusal}
 use Rattle.i2c.specs.declared.Previous.{Previous}
-use Rattle.engine.specs.Calls.{Engine, polling, blocking, engine-of, early, operations-steps, steps-of}
+use Rattle.engine.specs.Calls.{early, operations-steps, steps-of}
 use Rattle.demands.specs.Compare.{reduced-operations, is-empty, idle, Accepted}
 
 -- what is left of a kind 7 call, and the kind that does it: blocking write, read or write_read

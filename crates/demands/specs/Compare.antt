@@ -1,16 +1,16 @@
--- Two lists compared (document 01, "Reduced call" and "Two whole runs"; document 02 for kind 7).
+-- Two lists compared (document 01, "Reduced call" and "Two whole runs"; document 02 for kind 7 and ten-bit addresses).
 use Prim.Native.Nat.{ℕ, zero, suc}
 use mathlib.Core.Path.{_≡_}
 use mathlib.Core.List.{List, [], _∷_, map}
 use mathlib.Core.Bool.{Bool, true, false, _&&_, _||_}
 use lib.Dec.{eqb}
+use Rattle.buslist.specs.declared.Address.{Address}
 use Rattle.buslist.specs.Bytes.{word}
 use Rattle.buslist.specs.Refusal.{refusal, any}
-use Rattle.buslist.specs.Meaning.{Operation, write, read, Call, calls-of}
+use Rattle.buslist.specs.Meaning.{Operation, write, read, Engine, polling, blocking, engine-of, Call, calls-of}
 use Rattle.buslist.specs.Combined.{dropped, joined, combined}
 use Rattle.registers.specs.Access.{record-of, received-of}
 use Rattle.registers.specs.Machine.{flat}
-use Rattle.engine.specs.Calls.{Engine, polling, blocking, engine-of}
 use Rattle.engine.specs.Run.{Result, run, counts-of}
 
 -- the operations of a reduced call: polling joined, blocking with the empty ones dropped and the others joined
@@ -18,10 +18,10 @@ unfoldable pub reduced-operations : Engine → List Operation → List Operation
 reduced-operations polling os = joined os
 reduced-operations blocking os = combined os
 
--- a reduced call: engine, address, operations
+-- a reduced call: engine, address with its width, operations
 pub record Reduced : Type 0 where
   pub engine : Engine
-  pub address : ℕ
+  pub address : Address
   pub operations : List Operation
 
 unfoldable pub reduced : Call → Reduced

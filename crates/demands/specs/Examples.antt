@@ -2,6 +2,7 @@
 use Prim.Native.Nat.{ℕ}
 use mathlib.Core.Path.{_≡_, refl}
 use mathlib.Core.List.{List, [], _∷_, flatMap, flatten}
+use Rattle.buslist.specs.declared.Address.{Address}
 use Rattle.buslist.specs.Bytes.{half, word}
 use Rattle.buslist.specs.Table.{settings-of, call-at, operation-at, entries}
 use Rattle.buslist.specs.Form.{header-right, written, operation-right, operations-right, has-directions, kind-right, call-right, calls-right, of-the-form}
@@ -10,7 +11,7 @@ use Rattle.units.specs.declared.Mode.the-variants.{Standard}
 use Rattle.units.specs.declared.Settings.{Settings}
 use Rattle.units.specs.declared.Setup.{Setup}
 use Rattle.units.specs.Setup.{setup-of}
-use Rattle.buslist.specs.Meaning.{Operation, write, Call, operation-of}
+use Rattle.buslist.specs.Meaning.{Operation, write, engine-of, Call, operation-of, address-of}
 use Rattle.buslist.specs.Combined.{dropped, gather, joined, read-then-write}
 use Rattle.buslist.specs.Encode.{half-bytes, word-bytes, header, call-entries, call-bytes, operation-entries, operation-bytes, encode}
 use Rattle.registers.specs.declared.Source.{Source}
@@ -20,8 +21,8 @@ use Rattle.registers.specs.declared.Awaited.{Awaited}
 use Rattle.registers.specs.Word.{has, with-bit, without-bit}
 use Rattle.registers.specs.Access.{cut, clear-word, record-of, reads, received-of, number}
 use Rattle.registers.specs.Machine.{Step, Handler, check-word, after-check, poll-word, since, next, handle, exec, exec-on, exec-full, perform, no-room, after-call, after-bring-up, flat, whole-run, run as machine-run}
-use Rattle.i2c.specs.Polling.{write-bytes, last-read, turn, turn-write, turn-read, transfer, polling-steps}
-use Rattle.engine.specs.Calls.{engine-of, early, operations-steps, performed, steps-of}
+use Rattle.i2c.specs.Polling.{request-read, write-bytes, last-read, turn, turn-write, turn-read, transfer, polling-steps}
+use Rattle.engine.specs.Calls.{early, operations-steps, performed, steps-of}
 use Rattle.engine.specs.Run.{Result, run, result, accepted-run, counts-of}
 use Rattle.demands.specs.Compare.{reduced-operations, reduced}
 use Rattle.engine.specs.Speed.{speed-cr2, speed-trise, speed-ccr}
@@ -42,7 +43,7 @@ settings sysclk frequency start retries address «data» =
 
 -- a call of these operations to 50 hex
 abbrev pub call-to : ℕ → List Operation → Call
-call-to kind os = record { kind = kind; address = 0x50; operations = os }
+call-to kind os = record { kind = kind; address = Address.Seven 0x50; operations = os }
 
 -- the list of a polling write of 2A to 50 hex with these settings
 pub write-list : Settings → List ℕ
@@ -97,12 +98,12 @@ pub record Table : Type 0 where
 
 -- names all that `refusal` of a written list computes by, so that `unfolding computed` opens it
 unfoldable pub computed : List ℕ → ℕ → ℕ
-unfolding refusal causes first-cause over-limit timeout-out any received all-received dropped gather joined read-then-write operation-of of-the-form header-right written operation-right operations-right has-directions kind-right call-right calls-right settings-of call-at operation-at entries half word at-frequency with-timeouts write-list encode header call-entries call-bytes operation-entries operation-bytes word-bytes half-bytes flatMap
+unfolding refusal causes first-cause over-limit timeout-out any received all-received dropped gather joined read-then-write engine-of operation-of of-the-form header-right written operation-right operations-right has-directions kind-right call-right calls-right settings-of call-at operation-at entries half word at-frequency with-timeouts write-list encode header call-entries call-bytes operation-entries operation-bytes word-bytes half-bytes flatMap
 computed l rx = refusal l rx
 
 -- names all that a polling run computes by
 unfoldable pub ran : List ℕ → List ℕ → ℕ → ℕ → Result
-unfolding run result accepted-run counts-of setup-of steps-of operations-steps performed engine-of early operation-of has with-bit without-bit cut clear-word record-of reads received-of number check-word after-check next exec exec-on exec-full perform no-room after-call after-bring-up machine-run whole-run flatten handle write-bytes last-read turn turn-write turn-read transfer polling-steps
+unfolding run result accepted-run counts-of setup-of steps-of operations-steps performed engine-of early operation-of address-of has with-bit without-bit cut clear-word record-of reads received-of number check-word after-check next exec exec-on exec-full perform no-room after-call after-bring-up machine-run whole-run flatten handle request-read write-bytes last-read turn turn-write turn-read transfer polling-steps
 ran l rs rx words = run l rs rx words
 
 pub table : Table

@@ -3,3 +3,4 @@ pub mod Compare
 pub mod Corollaries
 pub mod Examples
 pub mod ByKind
+pub mod ByWidth
