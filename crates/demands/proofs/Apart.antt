@@ -12,7 +12,7 @@ use Rattle.registers.specs.Word.{BTF}
 use Rattle.registers.specs.Access.{SR1, CR1, CYC, wSR1, wDR}
 use Rattle.registers.specs.Machine.{Step, start}
 use Rattle.i2c.specs.declared.Previous.{Previous}
-use Rattle.i2c.specs.Polling.{address-byte, first-byte, send-low-byte, request-write, prepare-write, start-read, repeat-start, request-read, address-read, prepare-read, write-bytes, read-bytes, last-read, turn-write, turn-read, turn, transfer, direction, is-last, polling-steps}
+use Rattle.i2c.specs.Polling.{address-byte, first-byte, send-low-byte, request-write, prepare-write, start-read, repeat-start, address-read, prepare-read, write-bytes, read-bytes, last-read, turn-write, turn-read, turn, transfer, direction, is-last, polling-steps}
 use Rattle.blocking.specs.Blocking.{send-start-and-wait, send-addr-and-wait, write-wait, later-bytes, write-bytes-and-wait, write-without-stop, close, read-wait, receive-bytes, read-one, read-two, read-arm, read-steps, close-after, blocking-steps}
 use Rattle.demands.specs.Compare.{ends-empty}
 use Rattle.demands.proofs.Shape.{Full}
@@ -50,7 +50,7 @@ opened a o os p = transfer (is-last os) o ++ (polling-steps false a (direction o
 
 module _ {s : Setup} {P : Type 0} {p q : List Step} (a : Address) where
   mutual
-    unfolding polling-steps transfer last-read turn turn-read turn-write request-read first ends-empty
+    unfolding polling-steps transfer last-read turn turn-read turn-write first ends-empty
 
     -- two writes, prepared, and what follows each
     writes : (bs cs : List ℕ) (os ps : List Operation) → Turns Previous.Write os → Turns Previous.Write ps
@@ -105,13 +105,12 @@ module _ {s : Setup} {P : Type 0} where
       prefix request-write (puts (λ high. skip (puts (λ low. skip (skip (k (ap Address.Ten (omega arith))))))))
 
   -- a prepare for a write, and one for a read that begins a seven-bit call
-  write-or-seven : (a : Address) (c : ℕ) (p q : List Step) → Both s P (prepare-write a ++ p) (prepare-read (Address.Seven c) true ++ q)
-  unfolding request-read
+  write-or-seven : (a : Address) (c : ℕ) (p q : List Step) → Both s P (prepare-write a ++ p) (prepare-read (Address.Seven c) false ++ q)
   write-or-seven a c p q = skip (skip (modifies check-or-flag))
 
   -- a write once prepared, and the second START of a ten-bit call that begins with a read
   write-or-repeat : (a : Address) (bs : List ℕ) (os : List Operation) (p q : List Step) → Turns Previous.Write os → Both s P (opened a (write bs) os p) (repeat-start ++ q)
-  unfolding polling-steps transfer write-bytes turn turn-read request-read first
+  unfolding polling-steps transfer write-bytes turn turn-read first
   write-or-repeat a [] [] p q t = modifies (apart (omega arith))
   write-or-repeat a [] (read n ∷ os) p q t = flip modify-or-wait
   write-or-repeat a (b ∷ bs) [] p q t = apart (omega arith)
@@ -119,8 +118,8 @@ module _ {s : Setup} {P : Type 0} where
 
   -- so a write and a read that begins a ten-bit call are told apart
   write-or-ten : (a : Address) (c : ℕ) (bs : List ℕ) (os : List Operation) (p q : List Step) → Turns Previous.Write os
-      → Both s P (prepare-write a ++ opened a (write bs) os p) (prepare-read (Address.Ten c) true ++ q)
-  unfolding request-read
+      → Both s P (prepare-write a ++ opened a (write bs) os p) (turn-read (Address.Ten c) Previous.Nothing ++ q)
+  unfolding turn-read
   write-or-ten a c bs os p q t = same-prepare a (Address.Ten c) (λ e. write-or-repeat a bs os p _ t)
 
 module _ {s : Setup} {P : Type 0} {p q : List Step} where
@@ -135,7 +134,7 @@ module _ {s : Setup} {P : Type 0} {p q : List Step} where
   same-first : (a c : Address) (o o′ : Operation) (os ps : List Operation) → PollingForm (o ∷ os) → PollingForm (o′ ∷ ps)
       → (a ≡ c → _≡_ {A = List Operation} (o ∷ os) (o′ ∷ ps) → Both s P p q)
       → Both s P (turn false a Previous.Nothing o ++ opened a o os p) (turn false c Previous.Nothing o′ ++ opened c o′ ps q)
-  unfolding turn turn-write turn-read request-read
+  unfolding turn turn-write turn-read
   same-first a c (write bs) (write cs) os ps f g k = same-prepare a c (λ same. rw same (writes c bs cs os ps (f .0) (g .0) (f .1) (g .1) (k same)))
   same-first a (Address.Seven c) (write bs) (read n) os ps f g k = write-or-seven a c _ _
   same-first a (Address.Ten c) (write bs) (read n) os ps f g k = write-or-ten a c bs os _ _ (f .0)

@@ -15,7 +15,7 @@ use Rattle.buslist.specs.Meaning.{Operation, write, read, Engine, polling, bloc
 use Rattle.buslist.specs.Refusal.{any, address-out, Cause, causes, first-cause, refusal}
 use Rattle.buslist.proofs.Accept.{or-not-iff, passed, entry-fails, call-width, address-in}
 use Rattle.i2c.specs.declared.Previous.{Previous}
-use Rattle.i2c.specs.Polling.{request-read, turn-write, turn-read, turn, direction, polling-steps}
+use Rattle.i2c.specs.Polling.{turn-write, turn-read, turn, direction, polling-steps}
 use Rattle.engine.specs.Calls.{operations-steps, steps-of}
 use Rattle.engine.proofs.CallLaws.{performed-listed}
 use Rattle.demands.specs.Compare.{Reduced, reduced, reduced-calls, Accepted}
@@ -25,7 +25,7 @@ use Rattle.demands.proofs.Demand3.{demand-3}
 
 -- document 01's prepare is the one of a seven-bit call
 prepare-is : (a : ℕ) (previous : Previous) (o : Operation) → turn false (Address.Seven a) previous o ≡ seven-prepare a previous o
-unfolding turn turn-write turn-read request-read
+unfolding turn turn-write turn-read
 prepare-is a Previous.Nothing (write bytes) = refl
 prepare-is a Previous.Write (write bytes) = refl
 prepare-is a Previous.Read (write bytes) = refl

@@ -14,7 +14,7 @@ use Rattle.buslist.proofs.Joining.{read-before}
 use Rattle.registers.specs.Access.{CR1, number}
 use Rattle.registers.specs.Machine.{Step, bring-up, flat, whole-run}
 use Rattle.i2c.specs.declared.Previous.{Previous}
-use Rattle.i2c.specs.Polling.{request-read, last-read, turn-write, turn-read, turn, transfer, operation-steps, direction, polling-steps}
+use Rattle.i2c.specs.Polling.{last-read, turn-write, turn-read, turn, transfer, operation-steps, direction, polling-steps}
 use Rattle.engine.specs.Calls.{early, operations-steps, performed, steps-of}
 use Rattle.demands.specs.Compare.{Reduced, is-empty, reduced-operations, reduced, idle, ends-empty}
 use Rattle.demands.proofs.Shape.{All, none, more, Fails, Shaped, polling-write, polling-read, polling-write-read, transaction, blocking-write, blocking-read, blocking-write-read, blocking-transaction, SevenIn, OfKind, Full, FullIn, Sound, longer, rewritten}
@@ -33,7 +33,7 @@ Formed r = Form (r .engine) (r .operations) × SevenIn (r .engine) (r .address)
 
 -- a polling call begins with a CR1 read
 first-polling : (a : Address) (os : List Operation) (p : List Step) → PollingForm os → first (polling-steps false a Previous.Nothing os ++ p) ≡ CR1
-unfolding polling-steps turn turn-write turn-read request-read first
+unfolding polling-steps turn turn-write turn-read first
 first-polling a (write bs ∷ os) p h = refl
 first-polling (Address.Seven a) (read n ∷ os) p h = refl
 first-polling (Address.Ten a) (read n ∷ os) p h = refl

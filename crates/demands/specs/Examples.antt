@@ -21,7 +21,7 @@ use Rattle.registers.specs.declared.Awaited.{Awaited}
 use Rattle.registers.specs.Word.{has, with-bit, without-bit}
 use Rattle.registers.specs.Access.{cut, clear-word, record-of, reads, received-of, number}
 use Rattle.registers.specs.Machine.{Step, Handler, check-word, after-check, poll-word, since, next, handle, exec, exec-on, exec-full, perform, no-room, after-call, after-bring-up, flat, whole-run, run as machine-run}
-use Rattle.i2c.specs.Polling.{request-read, write-bytes, last-read, turn, turn-write, turn-read, transfer, polling-steps}
+use Rattle.i2c.specs.Polling.{write-bytes, last-read, turn, turn-write, turn-read, transfer, polling-steps}
 use Rattle.engine.specs.Calls.{early, operations-steps, performed, steps-of}
 use Rattle.engine.specs.Run.{Result, run, result, accepted-run, counts-of}
 use Rattle.demands.specs.Compare.{reduced-operations, reduced}
@@ -103,7 +103,7 @@ computed l rx = refusal l rx
 
 -- names all that a polling run computes by
 unfoldable pub ran : List ℕ → List ℕ → ℕ → ℕ → Result
-unfolding run result accepted-run counts-of setup-of steps-of operations-steps performed engine-of early operation-of address-of has with-bit without-bit cut clear-word record-of reads received-of number check-word after-check next exec exec-on exec-full perform no-room after-call after-bring-up machine-run whole-run flatten handle request-read write-bytes last-read turn turn-write turn-read transfer polling-steps
+unfolding run result accepted-run counts-of setup-of steps-of operations-steps performed engine-of early operation-of address-of has with-bit without-bit cut clear-word record-of reads received-of number check-word after-check next exec exec-on exec-full perform no-room after-call after-bring-up machine-run whole-run flatten handle write-bytes last-read turn turn-write turn-read transfer polling-steps
 ran l rs rx words = run l rs rx words
 
 pub table : Table

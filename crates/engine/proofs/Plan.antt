@@ -12,7 +12,7 @@ use Rattle.buslist.specs.declared.Address.{Address}
 use Rattle.buslist.specs.Meaning.{Operation, write, read, Engine, engine-of, address-number, Call}
 use Rattle.buslist.specs.Combined.{dropped, gather, joined, combined}
 use Rattle.i2c.specs.declared.Previous.{Previous}
-use Rattle.i2c.specs.Polling.{prepare-write, request-read, prepare-read, write-bytes, read-bytes, last-read, turn-write, turn-read, turn, transfer, direction, is-last, polling-steps}
+use Rattle.i2c.specs.Polling.{prepare-write, prepare-read, write-bytes, read-bytes, last-read, turn-write, turn-read, turn, transfer, direction, is-last, polling-steps}
 use Rattle.blocking.specs.Blocking.{later-bytes, write-wait, write-bytes-and-wait, write-without-stop, receive-bytes, last-three, read-arm, read-steps, done-last, close-after, blocking-steps, operation-steps as blocking-operation}
 use Rattle.engine.specs.Calls.{early, operations-steps, performed, steps-of}
 use Rattle.registers.specs.declared.BusError.{BusError}
@@ -153,11 +153,10 @@ module _ (P G : ℕ → ℕ) (w : Weights P G) where
   prepare-write-none (Address.Seven a) = omega arith
   prepare-write-none (Address.Ten a) = omega arith
 
-  prepare-read-none : (a : Address) (first : Bool) → total (prepare-read a first) ≡ 0
-  unfolding request-read total
+  prepare-read-none : (a : Address) (again : Bool) → total (prepare-read a again) ≡ 0
+  unfolding total
+  prepare-read-none a true = omega arith
   prepare-read-none a false = omega arith
-  prepare-read-none (Address.Seven a) true = omega arith
-  prepare-read-none (Address.Ten a) true = omega arith
 
   turn-write-none : (a : Address) (previous : Previous) → total (turn-write a previous) ≡ 0
   unfolding turn-write total
@@ -167,7 +166,8 @@ module _ (P G : ℕ → ℕ) (w : Weights P G) where
 
   turn-read-none : (a : Address) (previous : Previous) → total (turn-read a previous) ≡ 0
   unfolding turn-read total
-  turn-read-none a Previous.Nothing = prepare-read-none a true
+  turn-read-none (Address.Seven a) Previous.Nothing = prepare-read-none (Address.Seven a) false
+  turn-read-none (Address.Ten a) Previous.Nothing = omega arith
   turn-read-none a Previous.Write = prepare-read-none a false
   turn-read-none a Previous.Read = omega arith
 

@@ -3,6 +3,7 @@ use buslist::CallEntry;
 use buslist::Joined;
 use buslist::OperationEntry;
 use i2c::Previous;
+use registers::BusError;
 use registers::Outcome;
 use registers::Progress;
 use units::Hertz;
@@ -102,29 +103,20 @@ fn polling_operation(
     requires { ⌜ progress .got ≤ progress .used ⌝ }
     ensures { λ r. ⌜ ((s : Setup) → Receives s (polling-entry call previous last (operation-of (now (list .entry)) o)) readings log rx progress r) ⌝ }
 {
-    let addr = buslist::address_of(call);
-    if o.direction == 0 {
-        return i2c::write_operation(
-            readings,
-            log,
-            progress,
-            addr,
-            previous,
-            last,
-            buslist::bytes_of(list, o),
-        );
+    let read = o.direction != 0;
+    // `read` and `write_read` answer Overrun for an empty buffer before preparing that read.
+    if read & early(call.kind) & (o.length == 0) {
+        return Outcome::Failed(BusError::Overrun, progress);
     }
-    i2c::read_operation(
-        readings,
-        log,
-        rx,
-        progress,
-        addr,
-        previous,
-        last,
-        early(call.kind),
-        o.length as usize,
-    )
+    let addr = buslist::address_of(call);
+    let a = i2c::turn(readings, log, progress, addr, previous, read);
+    let Outcome::Well(next) = a else {
+        return a;
+    };
+    if read {
+        return i2c::read_transfer(readings, log, rx, next, last, o.length as usize);
+    }
+    i2c::write_transfer(readings, log, next, last, buslist::bytes_of(list, o))
 }
 
 // One operation of a blocking call.

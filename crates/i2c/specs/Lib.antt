@@ -1,2 +1,3 @@
 pub mod Polling
 pub mod Flags
+pub mod Turn

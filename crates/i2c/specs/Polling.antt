@@ -46,22 +46,21 @@ prepare-write a = request-write ++ address-write a
 abbrev pub start-read : List Step
 start-read = Step.stop-clear ∷ send-start (both START ACK) ++ Step.flag SB ∷ Step.master ∷ []
 
--- its START in a ten-bit call that begins with a read, after all of `prepare_write`: set START and ACK; plain SR1 reads until SB
+-- its START right after `prepare_write`, in a ten-bit call that begins with a read: set START and ACK; plain SR1 reads until SB
 abbrev pub repeat-start : List Step
 repeat-start = Step.modify (both START ACK) none ∷ Step.flag SB ∷ []
 
--- its request, for the first operation of a call (`first_transaction`) or a later one
-unfoldable pub request-read : Address → Bool → List Step
-request-read a false = start-read
-request-read (Address.Seven a) true = start-read
-request-read (Address.Ten a) true = prepare-write (Address.Ten a) ++ repeat-start
+-- its request, with the first START or with START again
+abbrev pub request-read : Bool → List Step
+request-read false = start-read
+request-read true = repeat-start
 
 -- its address phase: DR 2 × address + 1, or the header with its low bit 1; check (AF: Address) and a second SR1 read until the second has ADDR; read SR2
 abbrev pub address-read : Address → List Step
 address-read a = Step.put wDR (first-byte a true) ∷ Step.check-twice ADDR Source.Address ∷ Step.get SR2 ∷ []
 
 abbrev pub prepare-read : Address → Bool → List Step
-prepare-read a first = request-read a first ++ address-read a
+prepare-read a again = request-read again ++ address-read a
 
 -- `send_byte`: check until TXE (AF: Address), write DR, check until BTF (AF: Data)
 abbrev pub send-byte : ℕ → List Step
@@ -89,14 +88,15 @@ unfoldable pub last-read : ℕ → List Step
 last-read zero = Step.fail BusError.Overrun ∷ []
 last-read (suc n) = read-bytes n ++ (Step.modify (one STOP) (one ACK) ∷ recv-byte ++ Step.stop-clear ∷ [])
 
--- `transaction_slice`: prepare for the first operation and at each change of direction
+-- `transaction_slice`: prepare for the first operation and at each change of direction; a ten-bit call that begins with a read is prepared for a write first
 unfoldable pub turn-write : Address → Previous → List Step
 turn-write a Previous.Nothing = prepare-write a
 turn-write a Previous.Write = []
 turn-write a Previous.Read = prepare-write a
 
 unfoldable pub turn-read : Address → Previous → List Step
-turn-read a Previous.Nothing = prepare-read a true
+turn-read (Address.Seven a) Previous.Nothing = prepare-read (Address.Seven a) false
+turn-read (Address.Ten a) Previous.Nothing = prepare-write (Address.Ten a) ++ prepare-read (Address.Ten a) true
 turn-read a Previous.Write = prepare-read a false
 turn-read a Previous.Read = []
 

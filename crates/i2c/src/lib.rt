@@ -22,7 +22,7 @@ use registers::word_of;
 use registers::write;
 use units::Setup;
 ghost use mathlib.Core.Path.{_≡_};
-ghost use mathlib.Core.Bool.{Bool};
+ghost use mathlib.Core.Bool.{cond};
 ghost use mathlib.Core.List.{[], _∷_};
 ghost use Prim.Native.Nat.{_<_, _≤_};
 ghost use Rattle.buslist.specs.Meaning.{Operation};
@@ -31,7 +31,8 @@ ghost use Rattle.registers.specs.Machine.{Step, bring-up, reset, send-start, ch
 ghost use Rattle.registers.specs.Access.{wDR};
 ghost use Rattle.registers.specs.Contract.{Writes, Checks, DoesWith, Does, Receives};
 ghost use Rattle.i2c.specs.Flags.{no-error-flag};
-ghost use Rattle.i2c.specs.Polling.{address-byte, first-byte, send-low-byte, request-write, address-write, prepare-write, start-read, repeat-start, request-read, address-read, prepare-read, send-byte, recv-byte, write-bytes, read-bytes, last-write, last-read, turn-write, turn-read, operation-steps};
+ghost use Rattle.i2c.specs.Polling.{address-byte, first-byte, send-low-byte, request-write, address-write, prepare-write, start-read, repeat-start, request-read, address-read, prepare-read, send-byte, recv-byte, write-bytes, read-bytes, last-write, last-read, transfer};
+ghost use Rattle.i2c.specs.Turn.{sends-write, sends-read, turn-to};
 
 // The operation before, in a call.
 pub enum Previous {
@@ -413,27 +414,14 @@ fn repeat_start(readings: &[u32], log: &mut [u32], progress: Progress) -> Outcom
     until_flag(readings, log, next, registers::SB)
 }
 
-// The request for a read. A ten-bit call that begins with one is prepared for writing first.
-fn request_read(
-    readings: &[u32],
-    log: &mut [u32],
-    progress: Progress,
-    addr: Address,
-    first_transaction: bool,
-) -> Outcome
-    ensures { λ r. ⌜ Does (request-read addr «first_transaction») readings log progress r ⌝ }
+// The request for a read, with the first START or with START again.
+fn request_read(readings: &[u32], log: &mut [u32], progress: Progress, again: bool) -> Outcome
+    ensures { λ r. ⌜ Does (request-read again) readings log progress r ⌝ }
 {
-    if !first_transaction {
-        return start_read(readings, log, progress);
+    if again {
+        return repeat_start(readings, log, progress);
     }
-    let Address::Ten(_) = addr else {
-        return start_read(readings, log, progress);
-    };
-    let a = prepare_write(readings, log, progress, addr);
-    let Outcome::Well(next) = a else {
-        return a;
-    };
-    repeat_start(readings, log, next)
+    start_read(readings, log, progress)
 }
 
 // Sends the address for reading and waits for its acknowledge.
@@ -451,17 +439,17 @@ fn address_read(readings: &[u32], log: &mut [u32], progress: Progress, addr: Add
     get(readings, log, progress2, registers::SR2)
 }
 
-// Sends START and address for reading. `first_transaction`: no operation of the call came before.
+// Sends START and address for reading. `again`: a ten-bit address was just sent for writing.
 fn prepare_read(
     readings: &[u32],
     log: &mut [u32],
     progress: Progress,
     addr: Address,
-    first_transaction: bool,
+    again: bool,
 ) -> Outcome
-    ensures { λ r. ⌜ Does (prepare-read addr «first_transaction») readings log progress r ⌝ }
+    ensures { λ r. ⌜ Does (prepare-read addr again) readings log progress r ⌝ }
 {
-    let a = request_read(readings, log, progress, addr, first_transaction);
+    let a = request_read(readings, log, progress, again);
     let Outcome::Well(next) = a else {
         return a;
     };
@@ -579,85 +567,120 @@ fn write_wo_prepare(readings: &[u32], log: &mut [u32], progress: Progress, bytes
     until_stop_clear(readings, log, progress2)
 }
 
-// Prepares for a write, where the operation before was no write.
+// Whether the address is sent for writing: for a write that follows no write, and for a read that a ten-bit call begins with.
+fn sends_write(addr: Address, previous: Previous, read: bool) -> bool
+    ensures { λ r. ⌜ r ≡ sends-write addr previous read ⌝ }
+{
+    match previous {
+        Previous::Nothing => match addr {
+            Address::Seven(_) => !read,
+            Address::Ten(_) => true,
+        },
+        Previous::Write => false,
+        Previous::Read => !read,
+    }
+}
+
+// Whether the address is sent for reading: for a read that follows no read.
+fn sends_read(previous: Previous, read: bool) -> bool
+    ensures { λ r. ⌜ r ≡ sends-read previous read ⌝ }
+{
+    match previous {
+        Previous::Nothing => read,
+        Previous::Write => read,
+        Previous::Read => false,
+    }
+}
+
+// Prepares for a write, where the address is to be sent for one.
 fn turn_write(
     readings: &[u32],
     log: &mut [u32],
     progress: Progress,
     addr: Address,
-    previous: Previous,
+    sends: bool,
 ) -> Outcome
-    ensures { λ r. ⌜ Does (turn-write addr previous) readings log progress r ⌝ }
+    ensures { λ r. ⌜ Does (cond sends (prepare-write addr) []) readings log progress r ⌝ }
 {
-    match previous {
-        Previous::Write => Outcome::Well(progress),
-        _ => prepare_write(readings, log, progress, addr),
+    if !sends {
+        return Outcome::Well(progress);
     }
+    prepare_write(readings, log, progress, addr)
 }
 
-// Prepares for a read, where the operation before was no read.
+// Prepares for a read, where the address is to be sent for one.
 fn turn_read(
     readings: &[u32],
     log: &mut [u32],
     progress: Progress,
     addr: Address,
-    previous: Previous,
+    sends: bool,
+    again: bool,
 ) -> Outcome
-    ensures { λ r. ⌜ Does (turn-read addr previous) readings log progress r ⌝ }
+    ensures { λ r. ⌜ Does (cond sends (prepare-read addr again) []) readings log progress r ⌝ }
 {
-    match previous {
-        Previous::Nothing => prepare_read(readings, log, progress, addr, true),
-        Previous::Write => prepare_read(readings, log, progress, addr, false),
-        Previous::Read => Outcome::Well(progress),
+    if !sends {
+        return Outcome::Well(progress);
     }
+    prepare_read(readings, log, progress, addr, again)
 }
 
-// A write in a call, after the operation `previous`. The last one ends in STOP.
-pub fn write_operation(
+// Prepares for an operation of a call, after the operation `previous`. Each prepare is called from one place, so that it is inlined.
+pub fn turn(
     readings: &[u32],
     log: &mut [u32],
     progress: Progress,
     addr: Address,
     previous: Previous,
-    last: bool,
-    bytes: &[u8],
+    read: bool,
 ) -> Outcome
-    ensures { λ r. ⌜ ((e : Bool) → Does (operation-steps e addr previous last (Operation.write (now (bytes .entry)))) readings log progress r) ⌝ }
+    ensures { λ r. ⌜ Does (turn-to addr previous read) readings log progress r ⌝ }
 {
-    let a = turn_write(readings, log, progress, addr, previous);
+    let written = sends_write(addr, previous, read);
+    let a = turn_write(readings, log, progress, addr, written);
     let Outcome::Well(next) = a else {
         return a;
     };
-    if last {
-        return write_wo_prepare(readings, log, next, bytes);
-    }
-    write_bytes(readings, log, next, bytes)
+    turn_read(
+        readings,
+        log,
+        next,
+        addr,
+        sends_read(previous, read),
+        written,
+    )
 }
 
-// A read in a call, after the operation `previous`. Where `early` says so, an empty one is an Overrun before it is prepared.
-pub fn read_operation(
+// The bytes of a write in a call, once prepared. The last one ends in STOP.
+pub fn write_transfer(
+    readings: &[u32],
+    log: &mut [u32],
+    progress: Progress,
+    last: bool,
+    bytes: &[u8],
+) -> Outcome
+    ensures { λ r. ⌜ Does (transfer last (Operation.write (now (bytes .entry)))) readings log progress r ⌝ }
+{
+    if last {
+        return write_wo_prepare(readings, log, progress, bytes);
+    }
+    write_bytes(readings, log, progress, bytes)
+}
+
+// The bytes of a read in a call, once prepared.
+pub fn read_transfer(
     readings: &[u32],
     log: &mut [u32],
     rx: &mut [u8],
     progress: Progress,
-    addr: Address,
-    previous: Previous,
     last: bool,
-    early: bool,
     count: usize,
 ) -> Outcome
     requires { ⌜ progress .got ≤ progress .used ⌝ }
-    ensures { λ r. ⌜ ((s : Setup) → Receives s (operation-steps early addr previous last (Operation.read count)) readings log rx progress r) ⌝ }
+    ensures { λ r. ⌜ ((s : Setup) → Receives s (transfer last (Operation.read count)) readings log rx progress r) ⌝ }
 {
-    if early & (count == 0) {
-        return Outcome::Failed(BusError::Overrun, progress);
-    }
-    let a = turn_read(readings, log, progress, addr, previous);
-    let Outcome::Well(next) = a else {
-        return a;
-    };
     if last {
-        return read_wo_prepare(readings, log, rx, next, count);
+        return read_wo_prepare(readings, log, rx, progress, count);
     }
-    read_bytes(readings, log, rx, next, count)
+    read_bytes(readings, log, rx, progress, count)
 }
