@@ -1,7 +1,8 @@
 // Replays the stored vectors of the oracle: cases with what the original Rust left of them, in `vectors.bin` in the
-// current folder. Each case is run on buffers of its lengths, full of a pattern, and compared: the answer, the four
-// counts, the record, the received bytes, and that what lies past them in both buffers is as it was. The first case
-// that differs is named; then come how many runs had each answer, and how many cases differ.
+// current folder. Ten-bit calls in them were done by the oracle's model of the papers. Each case is run on buffers of
+// its lengths, full of a pattern, and compared: the answer, the four counts, the record, the received bytes, and that
+// what lies past them in both buffers is as it was. The first case that differs is named; then come how many runs had
+// each answer, and how many cases differ.
 //
 // How the vectors are made, and their form, is in oracle/README.md, "Stored vectors". The file `stdout` is made from
 // them alone, with no run, by the line below:
@@ -34,7 +35,7 @@ struct Case {
     readings: u32,
     room: u32,
     words: u32,
-    // What the original Rust came to: its answer and its four counts.
+    // What the oracle came to: its answer and its four counts.
     answer: u32,
     calls: u32,
     used: u32,
