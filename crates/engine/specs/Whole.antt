@@ -1,7 +1,7 @@
 -- The forms of the contracts of the run's inner functions: one operation of a call, the end of a call, and a whole run from a state, call by call.
 use Prim.Native.Nat.{ℕ, _+_, _≤_, _<_}
 use mathlib.Core.Path.{_≡_}
-use mathlib.Core.Bool.{Bool, true, false}
+use mathlib.Core.Bool.{Bool}
 use mathlib.Core.List.{List, [], _∷_, _++_, map}
 use lib.Dec.{eqb}
 use denote.Ref.{now}

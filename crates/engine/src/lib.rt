@@ -10,7 +10,7 @@ use units::Hertz;
 use units::Setup;
 ghost use mathlib.Core.Path.{_≡_};
 ghost use mathlib.Core.List.{List};
-ghost use Prim.Native.Nat.{ℕ, _<_, _≤_};
+ghost use Prim.Native.Nat.{ℕ, _≤_};
 ghost use lib.ListN.{length};
 ghost use Rattle.buslist.specs.Refusal.{refusal};
 ghost use Rattle.buslist.specs.Next.{OfAccepted};

@@ -1,6 +1,5 @@
 use mathlib.Core.Bool.{Bool, true, false, cond}
 use mathlib.Core.Path.{_≡_, refl}
-use lib.Dec.{leb}
 use Rattle.buslist.specs.Meaning.{Engine, engine-of, is-polling}
 use Rattle.buslist.proofs.is_polling.Statement.{statement}
 use Rattle.buslist.proofs.is_polling.Tie as tie

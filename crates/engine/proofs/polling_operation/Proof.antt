@@ -8,7 +8,7 @@ use borrow.Author.Tests.{eqb-true, not-true, not-false}
 use borrow.Author.Needs.{needs}
 use Rattle.buslist.specs.declared.Address.{Address}
 use Rattle.buslist.specs.declared.OperationEntry.{OperationEntry}
-use Rattle.buslist.specs.Meaning.{Operation, write, read, bytes-of, operation-of}
+use Rattle.buslist.specs.Meaning.{write, read, bytes-of, operation-of}
 use Rattle.registers.specs.declared.BusError.{BusError}
 use Rattle.registers.specs.Machine.{Step}
 use Rattle.registers.proofs.Steps.{here, rewritten, call-step, call-stops, call-last, ends-failed, no-setup, keeps-fewer}
