@@ -281,8 +281,10 @@ fn written(o: OperationEntry) -> u64
 fn operation_right(sum: u64, o: OperationEntry) -> bool
     ensures { λ r. ⌜ r ≡ operation-right sum o ⌝ }
 {
-    let offset = o.offset as u64;
-    (o.reserved == 0) & ((o.direction == 0) & (offset == sum) | (o.direction == 1) & (offset == 0))
+    let offset = if o.direction == 0 { sum } else { 0 };
+    (o.reserved == 0)
+        & ((o.direction == 0) | (o.direction == 1))
+        & (o.offset as u64 == offset)
 }
 
 fn operations_right(list: &[u8]) -> bool
@@ -303,19 +305,24 @@ fn operations_right(list: &[u8]) -> bool
     sum == word_at(list, 16) as u64
 }
 
+// By the number of operations first: a second one is read only where there are two.
 fn kind_right(list: &[u8], start: u32, c: CallEntry) -> bool
     requires { ⌜ start ≡ operation-offset (now list) ⌝ }
     ensures { λ r. ⌜ r ≡ kind-right (c .kind) (operations-of (now (list .entry)) c) ⌝ }
 {
     let first = operation_at(list, start, c.first as u32).direction;
-    let second = operation_at(list, start, c.first as u32 + 1).direction;
-    let one_write = (c.count == 1) & (first == 0);
-    let one_read = (c.count == 1) & (first == 1);
-    let write_then_read = (c.count == 2) & ((first == 0) & (second == 1));
-    ((c.kind == 0) | (c.kind == 4)) & one_write
-        | ((c.kind == 1) | (c.kind == 5)) & one_read
-        | ((c.kind == 2) | (c.kind == 6)) & write_then_read
-        | ((c.kind == 3) | (c.kind == 7))
+    let transaction = (c.kind == 3) | (c.kind == 7);
+    if c.count == 1 {
+        let write = ((c.kind == 0) | (c.kind == 4)) & (first == 0);
+        let read = ((c.kind == 1) | (c.kind == 5)) & (first == 1);
+        return write | read | transaction;
+    }
+    if c.count == 2 {
+        let second = operation_at(list, start, c.first as u32 + 1).direction;
+        let write_then_read = (first == 0) & (second == 1);
+        return ((c.kind == 2) | (c.kind == 6)) & write_then_read | transaction;
+    }
+    transaction
 }
 
 fn call_right(list: &[u8], start: u32, sum: u64, c: CallEntry) -> bool
@@ -432,7 +439,10 @@ fn empty_blocking(list: &[u8], start: u32, c: CallEntry) -> bool
     requires { ⌜ start ≡ operation-offset (now list) ⌝ }
     ensures { λ r. ⌜ r ≡ empty-blocking (now (list .entry)) c ⌝ }
 {
-    ((c.kind == 4) | (c.kind == 5)) & (operation_at(list, start, c.first as u32).length == 0)
+    if (c.kind == 4) | (c.kind == 5) {
+        return operation_at(list, start, c.first as u32).length == 0;
+    }
+    false
 }
 
 // Cause 25.

@@ -22,7 +22,7 @@ use registers::word_of;
 use registers::write;
 use units::Setup;
 ghost use mathlib.Core.Path.{_≡_};
-ghost use mathlib.Core.Bool.{cond};
+ghost use mathlib.Core.Bool.{Bool, cond};
 ghost use mathlib.Core.List.{[], _∷_};
 ghost use Prim.Native.Nat.{_<_, _≤_};
 ghost use Rattle.buslist.specs.Meaning.{Operation};
@@ -324,14 +324,21 @@ fn request_write(readings: &[u32], log: &mut [u32], progress: Progress) -> Outco
     check_master(readings, log, progress3)
 }
 
-// Sends the byte after START: the address, or the header of a ten-bit one, F0 hex and its two high bits.
+// What goes out first for an address: a seven-bit one itself, or 11110 in binary and the two high bits of a ten-bit one.
+fn first_number(addr: Address) -> u16
+    ensures { λ r. ⌜ ((reads : Bool) → first-byte addr reads ≡ address-byte r reads) ⌝ }
+{
+    match addr {
+        Address::Seven(address) => address,
+        Address::Ten(address) => 0x78 + address / 256,
+    }
+}
+
+// Sends the byte after START: the address, or the header of a ten-bit one.
 fn send_first_byte(log: &mut [u32], progress: Progress, addr: Address, read: bool) -> Outcome
     ensures { λ r. ⌜ Writes wDR (first-byte addr read) log progress r ⌝ }
 {
-    match addr {
-        Address::Seven(address) => send_addr(log, progress, address, read),
-        Address::Ten(address) => send_addr(log, progress, 0x78 + address / 256, read),
-    }
+    send_addr(log, progress, first_number(addr), read)
 }
 
 // Sends the low byte of a ten-bit address, once its header is acknowledged.
