@@ -282,9 +282,7 @@ fn operation_right(sum: u64, o: OperationEntry) -> bool
     ensures { λ r. ⌜ r ≡ operation-right sum o ⌝ }
 {
     let offset = if o.direction == 0 { sum } else { 0 };
-    (o.reserved == 0)
-        & ((o.direction == 0) | (o.direction == 1))
-        & (o.offset as u64 == offset)
+    (o.reserved == 0) & ((o.direction == 0) | (o.direction == 1)) & (o.offset as u64 == offset)
 }
 
 fn operations_right(list: &[u8]) -> bool

@@ -25,6 +25,16 @@ returns-3 c s rx =
     (at-write .write .ensures _ rx)
     refl
 
+-- these three are named, so that the edit low_byte_first can put them in the order of its program
+check-until-requires : tie.Need-check-until-requires
+check-until-requires c κs = search needs
+
+cast-write : tie.Need-cast-write
+cast-write c = search needs
+
+write-requires : tie.Need-write-requires
+write-requires c κs = search needs
+
 pub send-low-byte-spec : {M : Type 1} → statement M
 send-low-byte-spec =
     tie.close
@@ -32,11 +42,11 @@ send-low-byte-spec =
     (λ c. search needs)
     (λ c. search needs)
     returns
-    (λ c κs. search needs)
+    check-until-requires
     (λ c. search needs)
     (λ c. search needs)
     returns-2
-    (λ c. search needs)
-    (λ c κs. search needs)
+    cast-write
+    write-requires
     (λ c. search needs)
     returns-3)
