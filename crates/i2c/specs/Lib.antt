@@ -1,3 +1,2 @@
 pub mod Polling
-pub mod Flags
 pub mod Turn

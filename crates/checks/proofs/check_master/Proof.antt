@@ -5,10 +5,10 @@ use borrow.Author.Needs.{needs}
 use Rattle.registers.specs.Machine.{Step, next}
 use Rattle.registers.specs.State.{at, room}
 use Rattle.registers.proofs.Steps.{here, read-step, read-stops, read-less, ends-well}
-use Rattle.i2c.proofs.Waits.{Waiting}
-use Rattle.i2c.proofs.Checks.{check-master-checks, check-step, check-stops, check-less, cond-true, cond-false}
-use Rattle.i2c.proofs.check_master.Statement.{statement}
-use Rattle.i2c.proofs.check_master.Tie as tie
+use Rattle.checks.proofs.Waits.{Waiting}
+use Rattle.checks.proofs.Checks.{check-master-checks, check-step, check-stops, check-less, cond-true, cond-false}
+use Rattle.checks.proofs.check_master.Statement.{statement}
+use Rattle.checks.proofs.check_master.Tie as tie
 
 abbrev Inv-loop : tie.InvT-loop
 Inv-loop readings log₀ progress₀ log progress = Waiting Step.check-master readings log₀ progress₀ log progress

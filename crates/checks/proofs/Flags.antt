@@ -13,7 +13,7 @@ use Rattle.registers.specs.declared.Source.{Source}
 use Rattle.registers.specs.Word.{has, BERR, ARLO, AF, OVR, PECERR, TIMEOUT}
 use Rattle.registers.specs.Machine.{check-word}
 use Rattle.registers.proofs.BitLaws.{on-is-one, off-is-zero, bits-from-berr}
-use Rattle.i2c.specs.Flags.{no-error-flag}
+use Rattle.checks.specs.Flags.{no-error-flag}
 
 -- a mask of the five bits from BERR on, and of TIMEOUT
 masked : (v : ℕ) → bitAnd v 24320 ≡ v / 16384 % 2 * 16384 + v / 256 % 32 * 256

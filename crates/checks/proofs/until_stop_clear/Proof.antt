@@ -1,19 +1,20 @@
 use native.Mathlib.Omega.{arith}
 use mathlib.Core.Path.{refl, sym, _∙_}
 use mathlib.Core.List.{[]}
+use borrow.Author.Tests.{not-true, not-false}
 use Rattle.registers.specs.Machine.{Step}
 use Rattle.registers.specs.State.{at, room}
 use Rattle.registers.proofs.Steps.{here, read-step, read-stops, ends-well, read-less}
-use Rattle.i2c.proofs.Waits.{Waiting, next-flag}
+use Rattle.checks.proofs.Waits.{Waiting, next-stop-clear}
 use borrow.Author.Needs.{needs}
-use Rattle.i2c.proofs.until_flag.Statement.{statement}
-use Rattle.i2c.proofs.until_flag.Tie as tie
+use Rattle.checks.proofs.until_stop_clear.Statement.{statement}
+use Rattle.checks.proofs.until_stop_clear.Tie as tie
 
 abbrev Inv-loop : tie.InvT-loop
-Inv-loop readings log₀ flag progress₀ log progress = Waiting (Step.flag flag) readings log₀ progress₀ log progress
+Inv-loop readings log₀ progress₀ log progress = Waiting Step.stop-clear readings log₀ progress₀ log progress
 
 abbrev μ-loop : tie.MeasureT-loop
-μ-loop readings log₀ flag progress₀ log progress = room (at readings log [] progress)
+μ-loop readings log₀ progress₀ log progress = room (at readings log [] progress)
 
 loop-holds : tie.Need-loop-holds Inv-loop μ-loop
 loop-holds c = ((λ s rx. here), refl)
@@ -30,7 +31,7 @@ returns-2 c s rx =
     let at-read = at-t .before .before .before .before in
     let at-loop = at-read .before .before in
     ends-well (read-step (at-loop .loop .inv .0 s rx) (at-read .read .ensures rx) refl refl refl (at-t .t .given .1)
-    (next-flag s _ _ (sym (c .before .has .ensures) ∙ c .if1 .taken)))
+    (next-stop-clear s _ (sym (c .before .has .ensures) ∙ not-true _ (c .if1 .taken))))
 
 loop-less : tie.Need-loop-less Inv-loop μ-loop
 loop-less c = read-less (c .before .before .before .before .before .before .before .read .ensures []) (c .before .before .before .t .given .1)
@@ -41,12 +42,12 @@ loop-again c =
     let at-read = at-t .before .before .before .before in
     let at-loop = at-read .before .before in (
       (λ s rx. read-step (at-loop .loop .inv .0 s rx) (at-read .read .ensures rx) refl refl refl (at-t .t .given .1)
-          (next-flag s _ _ (sym (c .before .has .ensures) ∙ c .if1 .left))),
+          (next-stop-clear s _ (sym (c .before .has .ensures) ∙ not-false _ (c .if1 .left)))),
       omega (arith, at-read .read .kept),
     )
 
-pub until-flag-spec : {M : Type 1} → statement M
-until-flag-spec =
+pub until-stop-clear-spec : {M : Type 1} → statement M
+until-stop-clear-spec =
     tie.close
     (tie.spec
     Inv-loop

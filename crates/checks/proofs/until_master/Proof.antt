@@ -1,17 +1,16 @@
 use native.Mathlib.Omega.{arith}
 use mathlib.Core.Path.{refl, sym, _∙_}
 use mathlib.Core.List.{[]}
-use borrow.Author.Tests.{not-true, not-false}
 use Rattle.registers.specs.Machine.{Step}
 use Rattle.registers.specs.State.{at, room}
 use Rattle.registers.proofs.Steps.{here, read-step, read-stops, ends-well, read-less}
-use Rattle.i2c.proofs.Waits.{Waiting, next-stop-clear}
+use Rattle.checks.proofs.Waits.{Waiting, next-master}
 use borrow.Author.Needs.{needs}
-use Rattle.i2c.proofs.until_stop_clear.Statement.{statement}
-use Rattle.i2c.proofs.until_stop_clear.Tie as tie
+use Rattle.checks.proofs.until_master.Statement.{statement}
+use Rattle.checks.proofs.until_master.Tie as tie
 
 abbrev Inv-loop : tie.InvT-loop
-Inv-loop readings log₀ progress₀ log progress = Waiting Step.stop-clear readings log₀ progress₀ log progress
+Inv-loop readings log₀ progress₀ log progress = Waiting Step.master readings log₀ progress₀ log progress
 
 abbrev μ-loop : tie.MeasureT-loop
 μ-loop readings log₀ progress₀ log progress = room (at readings log [] progress)
@@ -31,23 +30,35 @@ returns-2 c s rx =
     let at-read = at-t .before .before .before .before in
     let at-loop = at-read .before .before in
     ends-well (read-step (at-loop .loop .inv .0 s rx) (at-read .read .ensures rx) refl refl refl (at-t .t .given .1)
-    (next-stop-clear s _ (sym (c .before .has .ensures) ∙ not-true _ (c .if1 .taken))))
+    (next-master s _ (sym (c .before .has .ensures) ∙ c .if1 .taken) refl))
+
+returns-3 : tie.Need-returns-3 Inv-loop μ-loop
+returns-3 c s rx =
+    let at-if1 = c .before .before in
+    let at-has = at-if1 .before in
+    let at-t = at-has .before .before in
+    let at-read = at-t .before .before .before .before in
+    let at-loop = at-read .before .before in
+    ends-well (read-step (at-loop .loop .inv .0 s rx) (at-read .read .ensures rx) refl refl refl (at-t .t .given .1)
+    (next-master s _ (sym (at-has .has .ensures) ∙ at-if1 .if1 .left) (sym (c .before .has2 .ensures) ∙ c .if2 .taken)))
 
 loop-less : tie.Need-loop-less Inv-loop μ-loop
-loop-less c = read-less (c .before .before .before .before .before .before .before .read .ensures []) (c .before .before .before .t .given .1)
+loop-less c = read-less (c .before .before .before .before .before .before .before .before .before .read .ensures []) (c .before .before .before .before .before .t .given .1)
 
 loop-again : tie.Need-loop-again Inv-loop μ-loop
 loop-again c =
-    let at-t = c .before .before .before in
+    let at-if1 = c .before .before in
+    let at-has = at-if1 .before in
+    let at-t = at-has .before .before in
     let at-read = at-t .before .before .before .before in
     let at-loop = at-read .before .before in (
       (λ s rx. read-step (at-loop .loop .inv .0 s rx) (at-read .read .ensures rx) refl refl refl (at-t .t .given .1)
-          (next-stop-clear s _ (sym (c .before .has .ensures) ∙ not-false _ (c .if1 .left)))),
+          (next-master s _ (sym (at-has .has .ensures) ∙ at-if1 .if1 .left) (sym (c .before .has2 .ensures) ∙ c .if2 .left))),
       omega (arith, at-read .read .kept),
     )
 
-pub until-stop-clear-spec : {M : Type 1} → statement M
-until-stop-clear-spec =
+pub until-master-spec : {M : Type 1} → statement M
+until-master-spec =
     tie.close
     (tie.spec
     Inv-loop
@@ -62,5 +73,8 @@ until-stop-clear-spec =
     (λ c κs. search needs)
     (λ c. search needs)
     returns-2
+    (λ c κs. search needs)
+    (λ c. search needs)
+    returns-3
     loop-less
     loop-again)

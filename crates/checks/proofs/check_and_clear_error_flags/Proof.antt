@@ -1,9 +1,9 @@
 use mathlib.Core.Path.{refl, sym, _∙_}
 use borrow.Author.Needs.{needs}
-use Rattle.i2c.proofs.Flags.{nothing-found, berr-found}
-use Rattle.i2c.proofs.Checks.{check-none, check-fine, check-error, check-spurious}
-use Rattle.i2c.proofs.check_and_clear_error_flags.Statement.{statement}
-use Rattle.i2c.proofs.check_and_clear_error_flags.Tie as tie
+use Rattle.checks.proofs.Flags.{nothing-found, berr-found}
+use Rattle.checks.proofs.Checks.{check-none, check-fine, check-error, check-spurious}
+use Rattle.checks.proofs.check_and_clear_error_flags.Statement.{statement}
+use Rattle.checks.proofs.check_and_clear_error_flags.Tie as tie
 
 returns : tie.Need-returns
 returns c rx = rw (c .checked-of .ensures) (check-none (c .before .before .before .before .before .read .ensures rx) (c .before .enum-told .given .1))

@@ -3,8 +3,8 @@ use mathlib.Core.Path.{_≡_, sym, _∙_}
 use Rattle.registers.specs.Word.{has, AF, OVR, PECERR, TIMEOUT}
 use Rattle.registers.specs.Machine.{check-word}
 use borrow.Author.Needs.{needs}
-use Rattle.i2c.proofs.first_error.Statement.{statement}
-use Rattle.i2c.proofs.first_error.Tie as tie
+use Rattle.checks.proofs.first_error.Statement.{statement}
+use Rattle.checks.proofs.first_error.Tie as tie
 
 -- the flags that were not set
 none1 : (c : tie.Else1) → has TIMEOUT (c .before .before .args .word) ≡ false

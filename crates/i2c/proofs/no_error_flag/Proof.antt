@@ -1,9 +1,0 @@
-use Rattle.i2c.proofs.Flags.{flags-tested}
-use Rattle.i2c.proofs.no_error_flag.Statement.{statement}
-use Rattle.i2c.proofs.no_error_flag.Tie as tie
-
-returns : tie.Need-returns
-returns c = flags-tested _
-
-pub no-error-flag-spec : {M : Type 1} → statement M
-no-error-flag-spec = tie.close (tie.spec returns)
