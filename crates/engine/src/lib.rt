@@ -114,9 +114,9 @@ fn polling_operation(
         return a;
     };
     if read {
-        return i2c::read_transfer(readings, log, rx, next, last, o.length as usize);
+        return transfer::read_transfer(readings, log, rx, next, last, o.length as usize);
     }
-    i2c::write_transfer(readings, log, next, last, buslist::bytes_of(list, o))
+    transfer::write_transfer(readings, log, next, last, buslist::bytes_of(list, o))
 }
 
 // One operation of a blocking call.

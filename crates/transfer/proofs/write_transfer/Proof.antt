@@ -1,7 +1,7 @@
 use borrow.Author.Needs.{needs}
 use Rattle.i2c.specs.Polling.{transfer}
-use Rattle.i2c.proofs.write_transfer.Statement.{statement}
-use Rattle.i2c.proofs.write_transfer.Tie as tie
+use Rattle.transfer.proofs.write_transfer.Statement.{statement}
+use Rattle.transfer.proofs.write_transfer.Tie as tie
 
 returns : tie.Need-returns
 unfolding transfer

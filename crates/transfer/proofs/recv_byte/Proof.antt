@@ -1,8 +1,8 @@
 use mathlib.Core.List.{[]}
 use borrow.Author.Needs.{needs}
 use Rattle.registers.proofs.Steps.{here, call-step, call-stops, call-last, no-setup, keeps-fewer}
-use Rattle.i2c.proofs.recv_byte.Statement.{statement}
-use Rattle.i2c.proofs.recv_byte.Tie as tie
+use Rattle.transfer.proofs.recv_byte.Statement.{statement}
+use Rattle.transfer.proofs.recv_byte.Tie as tie
 
 returns : tie.Need-returns
 returns c s = call-stops (c .before .before .before .check-twice .ensures s _) _ here (c .match .keys2)

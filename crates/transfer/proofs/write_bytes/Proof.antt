@@ -10,9 +10,9 @@ use Rattle.units.specs.declared.Setup.{Setup}
 use Rattle.registers.specs.State.{at}
 use Rattle.registers.specs.Contract.{Reaches}
 use Rattle.registers.proofs.Steps.{here, rewritten, call-step, call-stops, ends-well}
 use Rattle.i2c.specs.Polling.{send-byte, write-bytes}
-use Rattle.i2c.proofs.write_bytes.Statement.{statement}
-use Rattle.i2c.proofs.write_bytes.Tie as tie
+use Rattle.transfer.proofs.write_bytes.Statement.{statement}
+use Rattle.transfer.proofs.write_bytes.Tie as tie
 
 -- the bytes still to write: the next one, or none
 next-byte : (bs : List ℕ) (i : ℕ) → i < length bs → write-bytes (drop i bs) ≡ send-byte (getD bs i 0) ++ write-bytes (drop (i + 1) bs)

@@ -1,8 +1,8 @@
 use mathlib.Core.Path.{refl}
 use borrow.Author.Needs.{needs}
 use Rattle.registers.proofs.Steps.{here, write-step, write-stops, call-step, call-stops, call-last}
-use Rattle.i2c.proofs.send_byte.Statement.{statement}
-use Rattle.i2c.proofs.send_byte.Tie as tie
+use Rattle.transfer.proofs.send_byte.Statement.{statement}
+use Rattle.transfer.proofs.send_byte.Tie as tie
 
 returns : tie.Need-returns
 returns c s rx = call-stops (c .before .before .before .check-until .ensures s rx) _ here (c .match .keys2)

@@ -7,9 +7,9 @@ use Rattle.registers.specs.declared.BusError.{BusError}
 use Rattle.registers.specs.Word.{one, STOP, ACK}
 use Rattle.registers.specs.Machine.{Step}
 use Rattle.registers.proofs.Steps.{here, rewritten, call-step, call-stops, call-last, ends-failed, no-setup, keeps-fewer}
 use Rattle.i2c.specs.Polling.{read-bytes, last-read}
-use Rattle.i2c.proofs.read_wo_prepare.Statement.{statement}
-use Rattle.i2c.proofs.read_wo_prepare.Tie as tie
+use Rattle.transfer.proofs.read_wo_prepare.Statement.{statement}
+use Rattle.transfer.proofs.read_wo_prepare.Tie as tie
 
 -- no byte to read; or all but one, then the last
 no-byte : (n : ℕ) → n ≡ 0 → last-read n ≡ Step.fail BusError.Overrun ∷ []

@@ -8,9 +8,9 @@ use Rattle.units.specs.declared.Setup.{Setup}
 use Rattle.registers.specs.State.{at}
 use Rattle.registers.specs.Contract.{Reaches}
 use Rattle.registers.proofs.Steps.{here, rewritten, call-step, call-stops, ends-well, no-setup, keeps-fewer}
 use Rattle.i2c.specs.Polling.{recv-byte, read-bytes}
-use Rattle.i2c.proofs.read_bytes.Statement.{statement}
-use Rattle.i2c.proofs.read_bytes.Tie as tie
+use Rattle.transfer.proofs.read_bytes.Statement.{statement}
+use Rattle.transfer.proofs.read_bytes.Tie as tie
 
 -- the bytes still to read: all at first, then one fewer each turn
 all-bytes : (n : ℕ) → read-bytes n ≡ read-bytes (n - 0)

@@ -1,7 +1,7 @@
 use borrow.Author.Needs.{needs}
 use Rattle.registers.proofs.Steps.{here, call-step, call-stops, call-last}
-use Rattle.i2c.proofs.write_wo_prepare.Statement.{statement}
-use Rattle.i2c.proofs.write_wo_prepare.Tie as tie
+use Rattle.transfer.proofs.write_wo_prepare.Statement.{statement}
+use Rattle.transfer.proofs.write_wo_prepare.Tie as tie
 
 returns : tie.Need-returns
 returns c s rx = call-stops (c .before .before .before .write-bytes .ensures s rx) _ here (c .match .keys2)
