@@ -327,7 +327,7 @@ fn run_accepted(list: &[u8], readings: &[u32], rx: &mut [u8], log: &mut [u32]) -
 pub fn run(list: &[u8], readings: &[u32], rx: &mut [u8], log: &mut [u32]) -> Counts
     ensures { λ r. ⌜ Runs list readings rx log r ⌝ }
 {
-    let refused = buslist::refusal(list, rx.len());
+    let refused = acceptance::refusal(list, rx.len());
     if refused != 0 {
         return Counts {
             answer: refused,

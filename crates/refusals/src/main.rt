@@ -1,4 +1,4 @@
-// Runs hand-made bus lists through `buslist::refusal`, and prints for each the cause that was written down from
+// Runs hand-made bus lists through `acceptance::refusal`, and prints for each the cause that was written down from
 // the papers beside the cause that came back. The cases are text on standard input:
 //
 //   = NAME CAUSE LENGTH   starts a case: its name, the cause from the papers, the received buffer's length
@@ -53,7 +53,7 @@ fn start(text: &[u8], s: State) -> State {
 // What `refusal` says of the list's first `size` bytes.
 fn verdict(list: &[u8], size: usize, room: usize) -> usize {
     if size <= list.len() {
-        return buslist::refusal(&list[..size], room) as usize;
+        return acceptance::refusal(&list[..size], room) as usize;
     }
     0
 }
