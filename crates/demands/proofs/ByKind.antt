@@ -17,8 +17,8 @@ use Rattle.buslist.specs.Combined.{dropped, gather, joined, combined, read-then
 use Rattle.buslist.specs.Refusal.{any, write-after-read, causes, first-cause, refusal}
 use Rattle.i2c.specs.declared.Previous.{Previous}
 use Rattle.blocking.specs.Blocking.{close-after, blocking-steps}
-use Rattle.engine.specs.Calls.{early, operations-steps, performed, steps-of}
-use Rattle.engine.proofs.CallLaws.{performed-listed}
+use Rattle.calls.specs.Calls.{early, operations-steps, performed, steps-of}
+use Rattle.calls.proofs.CallLaws.{performed-listed}
 use Rattle.demands.specs.Compare.{is-empty, reduced-operations, idle}
 use Rattle.demands.specs.ByKind.{LeftFor, for-write, for-read, for-write-read, DoneAs, listed-reduced, is-seven, ByKind}
 use Rattle.demands.proofs.Shape.{Fails, Shaped, polling-write, polling-read, polling-write-read, transaction, blocking-write, blocking-read, blocking-write-read, blocking-transaction}

@@ -16,8 +16,8 @@ use Rattle.buslist.specs.Refusal.{any, address-out, Cause, causes, first-cause,
 use Rattle.buslist.proofs.Accept.{or-not-iff, passed, entry-fails, call-width, address-in}
 use Rattle.i2c.specs.declared.Previous.{Previous}
 use Rattle.i2c.specs.Polling.{turn-write, turn-read, turn, direction, polling-steps}
-use Rattle.engine.specs.Calls.{operations-steps, steps-of}
-use Rattle.engine.proofs.CallLaws.{performed-listed}
+use Rattle.calls.specs.Calls.{operations-steps, steps-of}
+use Rattle.calls.proofs.CallLaws.{performed-listed}
 use Rattle.demands.specs.Compare.{Reduced, reduced, reduced-calls, Accepted}
 use Rattle.demands.specs.ByWidth.{seven-prepare, seven-turn, seven-steps, address-out-before, causes-before, widths, ByWidth}
 use Rattle.demands.proofs.Shape.{All, none, more}

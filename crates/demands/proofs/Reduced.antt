@@ -15,7 +15,7 @@ use Rattle.registers.specs.Access.{CR1, number}
 use Rattle.registers.specs.Machine.{Step, bring-up, flat, whole-run}
 use Rattle.i2c.specs.declared.Previous.{Previous}
 use Rattle.i2c.specs.Polling.{last-read, turn-write, turn-read, turn, transfer, operation-steps, direction, polling-steps}
-use Rattle.engine.specs.Calls.{early, operations-steps, performed, steps-of}
+use Rattle.calls.specs.Calls.{early, operations-steps, performed, steps-of}
 use Rattle.demands.specs.Compare.{Reduced, is-empty, reduced-operations, reduced, idle, ends-empty}
 use Rattle.demands.proofs.Shape.{All, none, more, Fails, Shaped, polling-write, polling-read, polling-write-read, transaction, blocking-write, blocking-read, blocking-write-read, blocking-transaction, SevenIn, OfKind, Full, FullIn, Sound, longer, rewritten}
 use Rattle.demands.proofs.Same.{reduced-steps, reduces-all}

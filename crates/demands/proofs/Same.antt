@@ -13,7 +13,7 @@ use Rattle.registers.specs.Machine.{Step}
 use Rattle.i2c.specs.declared.Previous.{Previous}
 use Rattle.i2c.specs.Polling.{write-bytes, read-bytes, last-read, turn-write, turn-read, turn, transfer, is-last, polling-steps}
 use Rattle.blocking.specs.Blocking.{write-without-stop, read-steps, blocking-steps}
-use Rattle.engine.specs.Calls.{early, operations-steps, performed, steps-of}
+use Rattle.calls.specs.Calls.{early, operations-steps, performed, steps-of}
 use Rattle.demands.specs.Compare.{Reduced, reduced-operations, reduced, ends-empty}
 use Rattle.demands.proofs.Shape.{All, none, more, Shaped, polling-write, polling-read, polling-write-read, transaction, blocking-write, blocking-read, blocking-write-read, blocking-transaction, Full, FullIn, Sound, longer, rewritten}
 

@@ -15,7 +15,7 @@ use Rattle.buslist.specs.Meaning.{Operation, write, read, Engine, polling, bloc
 use Rattle.buslist.specs.Combined.{dropped, joined, combined}
 use Rattle.buslist.specs.Refusal.{any, causes, first-cause, refusal}
 use Rattle.i2c.specs.declared.Previous.{Previous}
-use Rattle.engine.specs.Calls.{early, operations-steps, steps-of}
+use Rattle.calls.specs.Calls.{early, operations-steps, steps-of}
 use Rattle.demands.specs.Compare.{reduced-operations, is-empty, idle, Accepted}
 
 -- what is left of a kind 7 call, and the kind that does it: blocking write, read or write_read

@@ -19,7 +19,7 @@ use Rattle.registers.specs.Machine.{Step, flat}
 use Rattle.i2c.specs.declared.Previous.{Previous}
 use Rattle.i2c.specs.Polling.{transfer, direction, is-last}
 use Rattle.blocking.specs.Blocking.{blocking-steps}
-use Rattle.engine.specs.Calls.{early, performed, steps-of}
+use Rattle.calls.specs.Calls.{early, performed, steps-of}
 use Rattle.engine.specs.Run.{run}
 use Rattle.demands.specs.Compare.{Accepted, Comparable}
 

@@ -22,7 +22,7 @@ use Rattle.registers.specs.Word.{has, with-bit, without-bit}
 use Rattle.registers.specs.Access.{cut, clear-word, record-of, reads, received-of, number}
 use Rattle.registers.specs.Machine.{Step, Handler, check-word, after-check, poll-word, since, next, handle, exec, exec-on, exec-full, perform, no-room, after-call, after-bring-up, flat, whole-run, run as machine-run}
 use Rattle.i2c.specs.Polling.{write-bytes, last-read, turn, turn-write, turn-read, transfer, polling-steps}
-use Rattle.engine.specs.Calls.{early, operations-steps, performed, steps-of}
+use Rattle.calls.specs.Calls.{early, operations-steps, performed, steps-of}
 use Rattle.engine.specs.Run.{Result, run, result, accepted-run, counts-of}
 use Rattle.demands.specs.Compare.{reduced-operations, reduced}
 use Rattle.engine.specs.Speed.{speed-cr2, speed-trise, speed-ccr}

@@ -15,7 +15,7 @@ use Rattle.registers.specs.declared.BusError.{BusError}
 use Rattle.registers.specs.declared.Entry.{Entry}
 use Rattle.registers.specs.Access.{Access, Shortage, Ending, is-read, cut, reads, number}
 use Rattle.registers.specs.Machine.{Step, Act, access, next, perform, no-room, exec, exec-on, exec-full, bring-up, Run, run, after-call, flat, after-bring-up, whole-run}
-use Rattle.engine.specs.Calls.{steps-of}
+use Rattle.calls.specs.Calls.{steps-of}
 use Rattle.engine.proofs.Plan.{Weights, total, total-append, after-access, bring-up-none, times, reads-together, steps-total}
 
 -- steps with this room and these readings log so and end so

@@ -3,5 +3,4 @@ pub mod Plan
 pub mod Goes
 pub mod Received
 pub mod Result
-pub mod CallLaws
 pub mod Pass

@@ -14,7 +14,7 @@ use Rattle.buslist.specs.Combined.{dropped, gather, joined, combined}
 use Rattle.i2c.specs.declared.Previous.{Previous}
 use Rattle.i2c.specs.Polling.{prepare-write, prepare-read, write-bytes, read-bytes, last-read, turn-write, turn-read, turn, transfer, direction, is-last, polling-steps}
 use Rattle.blocking.specs.Blocking.{later-bytes, write-wait, write-bytes-and-wait, write-without-stop, receive-bytes, last-three, read-arm, read-steps, done-last, close-after, blocking-steps, operation-steps as blocking-operation}
-use Rattle.engine.specs.Calls.{early, operations-steps, performed, steps-of}
+use Rattle.calls.specs.Calls.{early, operations-steps, performed, steps-of}
 use Rattle.registers.specs.declared.BusError.{BusError}
 use Rattle.registers.specs.declared.Flagged.{Flagged}
 use Rattle.registers.specs.declared.Awaited.{Awaited}

@@ -16,7 +16,7 @@ use Rattle.buslist.proofs.Accept.{calls-received, calls-room, call-within, oper
 use Rattle.registers.specs.declared.Entry.{Entry}
 use Rattle.registers.specs.Access.{Ending, is-data, received-of, cut, low-byte}
 use Rattle.registers.specs.Machine.{Step, bring-up, flat, whole-run}
-use Rattle.engine.specs.Calls.{steps-of}
+use Rattle.calls.specs.Calls.{steps-of}
 use Rattle.engine.proofs.Plan.{Weights, total, total-append, after-access, bring-up-none, times, reads-in, reads-together, steps-total}
 use Rattle.engine.proofs.Goes.{Goes, done, halted, full, lacks, wrote, took, whole-goes}
 

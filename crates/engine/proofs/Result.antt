@@ -19,8 +19,9 @@ use Rattle.registers.specs.declared.Outcome.{Outcome}
 use Rattle.registers.specs.Access.{entries-in, record-of, received-of, reads, number}
 use Rattle.registers.specs.Machine.{Step, bring-up, flat, WholeRun, whole-run}
 use Rattle.registers.specs.State.{at, room, left, resume}
-use Rattle.engine.specs.Calls.{steps-of}
-use Rattle.engine.specs.Whole.{nothing-yet, Final, after-calls, calls-run, progress-of, ended-counts, final}
+use Rattle.calls.specs.Calls.{steps-of}
+use Rattle.calls.specs.Whole.{nothing-yet, Final, after-calls, calls-run, progress-of, final}
+use Rattle.engine.specs.Ended.{ended-counts}
 use Rattle.engine.specs.Run.{run, result, accepted-run, counts-of, filled, Meant, RunsTo}
 use Rattle.engine.proofs.RunLaws.{final-of, whole-run-is, replay-is, filled-is, record-length}
 use Rattle.engine.proofs.Goes.{whole-goes, goes-room}

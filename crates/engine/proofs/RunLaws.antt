@@ -17,7 +17,7 @@ use Rattle.registers.specs.Machine.{Step, exec, run, after-call, flat, after-br
 use Rattle.registers.specs.State.{State, at, recorded, received, replay, room, left, after, resume}
 use Rattle.registers.proofs.Laws.{room-recorded, room-received}
 use Rattle.engine.specs.Run.{filled}
-use Rattle.engine.specs.Whole.{Final, after-calls, calls-run}
+use Rattle.calls.specs.Whole.{Final, after-calls, calls-run}
 
 replay-append : (a b : List Entry) (st : State) → replay (a ++ b) st ≡ replay b (replay a st)
 unfolding replay

@@ -1,4 +1,3 @@
 pub mod Speed
-pub mod Calls
-pub mod Whole
 pub mod Run
+pub mod Ended

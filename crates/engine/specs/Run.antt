@@ -15,7 +15,7 @@ use Rattle.registers.specs.Access.{entries-in, record-of, reads, received-of, n
 use Rattle.registers.specs.Machine.{Log, flat, WholeRun, whole-run}
 use Rattle.registers.specs.Contract.{Slice}
 use Rattle.engine.specs.declared.Counts.{Counts}
-use Rattle.engine.specs.Calls.{steps-of}
+use Rattle.calls.specs.Calls.{steps-of}
 
 -- a run: its answer, calls ended well before it stopped, and its log of accesses
 pub record Result : Type 0 where

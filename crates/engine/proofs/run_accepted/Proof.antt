@@ -1,4 +1,4 @@
-use Rattle.engine.proofs.CallLaws.{first-stops, first-done}
+use Rattle.calls.proofs.CallLaws.{first-stops, first-done}
 use Rattle.engine.proofs.Result.{accepted-meant}
 use Rattle.registers.proofs.Steps.{keeps-fewer}
 use Rattle.buslist.proofs.Accept.{ranges}

@@ -1,7 +1,7 @@
 use mathlib.Core.Path.{refl}
-use Rattle.engine.specs.Calls.{early}
-use Rattle.engine.proofs.early.Statement.{statement}
-use Rattle.engine.proofs.early.Tie as tie
+use Rattle.calls.specs.Calls.{early}
+use Rattle.calls.proofs.early.Statement.{statement}
+use Rattle.calls.proofs.early.Tie as tie
 
 returns : tie.Need-returns
 unfolding early

@@ -1,7 +1,7 @@
-use Rattle.engine.proofs.CallLaws.{takes-listed, takes-joined}
+use Rattle.calls.proofs.CallLaws.{takes-listed, takes-joined}
 use borrow.Author.Needs.{needs}
-use Rattle.engine.proofs.operation_from.Statement.{statement}
-use Rattle.engine.proofs.operation_from.Tie as tie
+use Rattle.calls.proofs.operation_from.Statement.{statement}
+use Rattle.calls.proofs.operation_from.Tie as tie
 
 returns : tie.Need-returns
 returns c = takes-joined _ _ _ _ (c .joined-at .result) (c .before .if1 .taken) (c .joined-at .ensures)

@@ -28,8 +28,8 @@ use Rattle.registers.proofs.Steps.{NotWell, not-first}
 use Rattle.i2c.specs.declared.Previous.{Previous}
 use Rattle.i2c.specs.Polling.{polling-steps, is-last}
 use Rattle.blocking.specs.Blocking.{write-without-stop, read-steps, done-last, blocking-steps, operation-steps as blocking-operation}
-use Rattle.engine.specs.Calls.{early, operations-steps, performed, steps-of}
-use Rattle.engine.specs.Whole.{operation-steps, moved, rest-steps, Takes, end-steps, Final, more-calls, after-calls, calls-run, final, Ends, Left}
+use Rattle.calls.specs.Calls.{early, operations-steps, performed, steps-of}
+use Rattle.calls.specs.Whole.{operation-steps, moved, rest-steps, Takes, end-steps, Final, more-calls, after-calls, calls-run, final, Ends, Left}
 
 -- no call is done yet
 pub calls-start : {s : Setup} {cs : List (List Step)} {st : State} → Left s cs st 0 cs st

@@ -13,11 +13,11 @@ use Rattle.registers.specs.declared.Outcome.{Outcome}
 use Rattle.registers.specs.State.{at}
 use Rattle.registers.specs.Contract.{Reaches}
 use Rattle.registers.proofs.Steps.{here, rewritten, call-step, call-stops, call-last, keeps-fewer}
-use Rattle.engine.specs.Calls.{steps-of}
-use Rattle.engine.specs.Whole.{rest-steps, Left}
-use Rattle.engine.proofs.CallLaws.{calls-start, call-stops-run, next-call, calls-end, operations-done, calls-from, calls-all, calls-next, calls-none, left-rewritten}
-use Rattle.engine.proofs.run_calls.Statement.{statement}
-use Rattle.engine.proofs.run_calls.Tie as tie
+use Rattle.calls.specs.Calls.{steps-of}
+use Rattle.calls.specs.Whole.{rest-steps, Left}
+use Rattle.calls.proofs.CallLaws.{calls-start, call-stops-run, next-call, calls-end, operations-done, calls-from, calls-all, calls-next, calls-none, left-rewritten}
+use Rattle.calls.proofs.run_calls.Statement.{statement}
+use Rattle.calls.proofs.run_calls.Tie as tie
 
 abbrev Inv-loop : tie.InvT-loop
 Inv-loop list readings rx₀ log₀ setup calls call-start operation-start progress₀ k call end j₀ previous₀ rx log progress j previous =

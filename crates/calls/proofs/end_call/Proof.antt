@@ -1,10 +1,10 @@
 use Rattle.registers.proofs.Steps.{here, ends-well}
-use Rattle.engine.specs.Whole.{end-steps}
-use Rattle.engine.proofs.CallLaws.{polling-call, blocking-call}
+use Rattle.calls.specs.Whole.{end-steps}
+use Rattle.calls.proofs.CallLaws.{polling-call, blocking-call}
 use mathlib.Core.Path.{sym, _∙_}
 use borrow.Author.Needs.{needs}
-use Rattle.engine.proofs.end_call.Statement.{statement}
-use Rattle.engine.proofs.end_call.Tie as tie
+use Rattle.calls.proofs.end_call.Statement.{statement}
+use Rattle.calls.proofs.end_call.Tie as tie
 
 returns : tie.Need-returns
 unfolding end-steps

@@ -1,8 +1,8 @@
-use Rattle.engine.proofs.CallLaws.{not-a-write}
+use Rattle.calls.proofs.CallLaws.{not-a-write}
 use Rattle.buslist.proofs.Accept.{operation-write}
 use borrow.Author.Needs.{needs}
-use Rattle.engine.proofs.blocking_operation.Statement.{statement}
-use Rattle.engine.proofs.blocking_operation.Tie as tie
+use Rattle.calls.proofs.blocking_operation.Statement.{statement}
+use Rattle.calls.proofs.blocking_operation.Tie as tie
 
 returns : tie.Need-returns
 returns c =

@@ -1,5 +1,5 @@
-use Rattle.engine.proofs.CallLaws.{polling-call, blocking-call}
-use Rattle.engine.specs.Whole.{moved}
+use Rattle.calls.proofs.CallLaws.{polling-call, blocking-call}
+use Rattle.calls.specs.Whole.{moved}
 use Rattle.blocking.specs.Blocking.{done-last}
 use Rattle.i2c.specs.Polling.{direction}
 use Rattle.i2c.specs.declared.Previous.{Previous}
@@ -10,8 +10,8 @@ use Prim.Native.Nat.{ℕ, zero, suc}
 use native.Mathlib.Omega.{arith}
 use mathlib.Core.Path.{_≡_, refl, sym, _∙_}
 use borrow.Author.Needs.{needs}
-use Rattle.engine.proofs.moved.Statement.{statement}
-use Rattle.engine.proofs.moved.Tie as tie
+use Rattle.calls.proofs.moved.Statement.{statement}
+use Rattle.calls.proofs.moved.Tie as tie
 
 passed-over : (p : Previous) (o : Operation) → empty o ≡ true → done-last p o ≡ p
 passed-over p (Operation.write []) e = refl

@@ -1,9 +1,9 @@
-use Rattle.engine.specs.Whole.{operation-steps}
-use Rattle.engine.proofs.CallLaws.{polling-call, blocking-call, number-of-address}
+use Rattle.calls.specs.Whole.{operation-steps}
+use Rattle.calls.proofs.CallLaws.{polling-call, blocking-call, number-of-address}
 use mathlib.Core.Path.{sym, _∙_}
 use borrow.Author.Needs.{needs}
-use Rattle.engine.proofs.operation.Statement.{statement}
-use Rattle.engine.proofs.operation.Tie as tie
+use Rattle.calls.proofs.operation.Statement.{statement}
+use Rattle.calls.proofs.operation.Tie as tie
 
 returns : tie.Need-returns
 unfolding operation-steps

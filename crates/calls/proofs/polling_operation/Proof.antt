@@ -15,8 +15,8 @@ use Rattle.registers.proofs.Steps.{here, rewritten, call-step, call-stops, call
 use Rattle.i2c.specs.declared.Previous.{Previous}
 use Rattle.i2c.specs.Polling.{turn, transfer, operation-steps}
 use Rattle.i2c.specs.Turn.{turn-to}
-use Rattle.engine.proofs.polling_operation.Statement.{statement}
-use Rattle.engine.proofs.polling_operation.Tie as tie
+use Rattle.calls.proofs.polling_operation.Statement.{statement}
+use Rattle.calls.proofs.polling_operation.Tie as tie
 
 -- an operation of a polling call: a read or a write, and whether it is an early Overrun
 module _ (l : List ℕ) (o : OperationEntry) (early : Bool) (a : Address) (p : Previous) (last : Bool) where

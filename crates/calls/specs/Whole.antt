@@ -20,8 +20,7 @@ use Rattle.registers.specs.Contract.{outcome-number, Slice}
 use Rattle.i2c.specs.declared.Previous.{Previous}
 use Rattle.i2c.specs.Polling.{direction, operation-steps as polling-operation}
 use Rattle.blocking.specs.Blocking.{done-last, close-after, operation-steps as blocking-operation}
-use Rattle.engine.specs.declared.Counts.{Counts}
-use Rattle.engine.specs.Calls.{early, operations-steps, performed, steps-of}
+use Rattle.calls.specs.Calls.{early, operations-steps, performed, steps-of}
 
 -- one operation, with the operation before it and whether it is the last
 unfoldable pub operation-steps : Setup → Engine → Bool → Address → Previous → Bool → Operation → List Step
@@ -86,17 +85,6 @@ abbrev pub progress-of : Outcome → Progress
 progress-of (Outcome.Well b) = b
 progress-of (Outcome.Failed e b) = b
 progress-of (Outcome.CutShort c b) = b
-
--- the answer and the counts that an outcome gives after so many calls
-abbrev pub ended-counts : Outcome → ℕ → Counts
-ended-counts o calls =
-    record {
-      answer = outcome-number o;
-      calls = calls;
-      used = progress-of o .used;
-      made = progress-of o .made;
-      got = progress-of o .got;
-    }
 
 -- a run that ended with this outcome after k calls
 abbrev pub final : List ℕ → List ℕ → List ℕ → ℕ → Outcome → Final

@@ -1,7 +1,7 @@
 use borrow.Author.Tests.{ne-eqb}
 use Rattle.buslist.specs.Meaning.{operation-of}
-use Rattle.engine.proofs.direction.Statement.{statement}
-use Rattle.engine.proofs.direction.Tie as tie
+use Rattle.calls.proofs.direction.Statement.{statement}
+use Rattle.calls.proofs.direction.Tie as tie
 
 returns : tie.Need-returns
 unfolding operation-of
