@@ -1,4 +1,6 @@
 // Whether a bus list is accepted: the causes that refuse it (document 01, "How a run can end", and document 02).
+#![tactic(auto)]
+
 ghost use Rattle.std.specs.Prelude.{◌≡◌, length};
 ghost use Rattle.buslist.specs.Table.{operation_offset, calls, operations};
 ghost use Rattle.buslist.specs.Meaning.{call_of};

@@ -1,4 +1,6 @@
 // The rest of the blocking I2C master, named and ordered as the Rust's src/i2c/blocking.rs: the close of a write, and the read.
+#![tactic(auto)]
+
 ghost use Rattle.std.specs.Prelude.{◌<◌, ◌≤◌};
 ghost use Rattle.registers.specs.Contract.{DoesWith, Does, Receives};
 ghost use Rattle.blocking.specs.Blocking.{one_ready, more_ready, third_last, second_last, close, receive, finish_read, read_one, two_ready, two_bytes, two_end, read_two, receive_bytes, last_three, read_more, read_arm, read_steps, close_after};

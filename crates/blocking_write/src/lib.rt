@@ -1,4 +1,6 @@
 // The blocking I2C master up to its write, named and ordered as the Rust's src/i2c/blocking.rs: start, address and write.
+#![tactic(auto)]
+
 ghost use Rattle.std.specs.Prelude.{[], ◌∷◌, ◌++◌, ◌<◌, length};
 ghost use Rattle.registers.specs.Machine.{Step, Handler, handle};
 ghost use Rattle.registers.specs.Access.{wDR};

@@ -1,4 +1,6 @@
 // Parts of buffers, words out of bytes and entries out of a record, for the programs.
+#![tactic(auto)]
+
 ghost use Rattle.std.specs.Prelude.{◌≡◌, length};
 ghost use Rattle.registers.specs.Access.{entries_in};
 

@@ -1,4 +1,6 @@
 // The bus list: its tables, and what it holds (document 01, "Bus list").
+#![tactic(auto)]
+
 ghost use Rattle.std.specs.Prelude.{◌≡◌, min, ◌+◌, ◌≤◌, ◌<◌, ◌^◌, length};
 ghost use Rattle.buslist.specs.Bytes.{byte, half, word};
 ghost use Rattle.buslist.specs.Table.{call_count, call_offset, operation_count, operation_offset, settings_of, call_at, operation_at};
@@ -8,14 +10,14 @@ ghost use Rattle.buslist.specs.Next.{OfAccepted, joins, JoinsAt};
 use units::{Hertz, Micros, Settings};
 
 // An address with its width. A list has 16 bits for either.
-#[derive(Drop)]
+#[derive(Clone, Copy)]
 pub enum Address {
     Seven(u16),
     Ten(u16),
 }
 
 // A call as its 8 bytes have it.
-#[derive(Drop)]
+#[derive(Clone, Copy)]
 pub struct CallEntry {
     pub kind: u8,
     pub width: u8,
@@ -25,7 +27,7 @@ pub struct CallEntry {
 }
 
 // An operation as its 8 bytes have it. The length of operations that are joined may need more than the 16 bits there.
-#[derive(Drop)]
+#[derive(Clone, Copy)]
 pub struct OperationEntry {
     pub direction: u8,
     pub reserved: u8,
@@ -34,7 +36,7 @@ pub struct OperationEntry {
 }
 
 // Operations joined as one, and the number of the operation after them.
-#[derive(Drop)]
+#[derive(Clone, Copy)]
 pub struct Joined {
     pub operation: OperationEntry,
     pub next: u32,
@@ -90,7 +92,7 @@ pub fn word_at(list: &[u8], i: usize) -> u32
 }
 
 // The two words of an entry.
-#[derive(Drop)]
+#[derive(Clone, Copy)]
 struct Words(u32, u32);
 
 // The words of the entry at i, with one test of the bounds for both. The bound on i lets i + 4 fit.

@@ -1,5 +1,7 @@
 // Runs the bus list in `list.bin` on the readings in `readings.bin`, both in the current folder, and prints every
 // access, the received bytes and how the run ended.
+#![tactic(auto)]
+
 use buffers::{entry_at, first_bytes, first_words};
 use engine::Counts;
 

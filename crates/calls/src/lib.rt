@@ -1,4 +1,6 @@
 // The calls of an accepted list, in order: each operation goes to its engine, polling or blocking.
+#![tactic(auto)]
+
 ghost use Rattle.std.specs.Prelude.{◌≡◌, List, ℕ, ◌≤◌, length};
 ghost use Rattle.buslist.specs.Refusal.{refusal};
 ghost use Rattle.buslist.specs.Next.{OfAccepted};
@@ -15,7 +17,7 @@ use registers::{BusError, Outcome, Progress};
 use units::Setup;
 
 // How the calls of a run ended: the last outcome, and the calls ended well.
-#[derive(Drop)]
+#[derive(Clone, Copy)]
 pub struct Stopped {
     pub outcome: Outcome,
     pub calls: u32,

@@ -5,12 +5,14 @@
 //   z N                   N zero bytes
 //
 // Blanks part the words, and '#' starts a comment to the line's end. A number is decimal, or hexadecimal after 0x.
+#![tactic(auto)]
+
 ghost use Rattle.std.specs.Prelude.{◌<◌};
 
 use libc::STDOUT_FILENO;
 
 // A word of the text: the bytes from `from` up to `to`.
-#[derive(Drop)]
+#[derive(Clone, Copy)]
 pub struct Span {
     pub from: usize,
     pub to: usize,

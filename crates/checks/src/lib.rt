@@ -1,4 +1,6 @@
 // Checks of the error flags, and the waits of the polling engine, which have no time limit (the Rust's src/i2c.rs).
+#![tactic(auto)]
+
 ghost use Rattle.std.specs.Prelude.{◌≡◌, [], ◌∷◌, ◌<◌};
 ghost use Rattle.registers.specs.Machine.{Step, check_word};
 ghost use Rattle.registers.specs.Contract.{Checks, Does};

@@ -1,4 +1,6 @@
 // The engine as hosts see it: the run of a bus list, and every exported function.
+#![tactic(auto)]
+
 ghost use Rattle.std.specs.Prelude.{◌≡◌, length};
 ghost use Rattle.buslist.specs.Refusal.{refusal};
 ghost use Rattle.calls.specs.Whole.{progress_of};
@@ -10,7 +12,7 @@ use registers::{Outcome, Progress};
 use units::Hertz;
 
 // How a run ended: its answer, calls ended well, readings used, accesses made, bytes received.
-#[derive(Drop)]
+#[derive(Clone, Copy)]
 pub struct Counts {
     pub answer: u32,
     pub calls: usize,

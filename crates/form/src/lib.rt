@@ -1,4 +1,6 @@
 // Whether bytes are a bus list by their form (document 01, "Bus list"): cause 20.
+#![tactic(auto)]
+
 ghost use Rattle.std.specs.Prelude.{◌≡◌};
 ghost use Rattle.buslist.specs.Table.{operation_offset, operations_of, calls, operations, data_bytes};
 ghost use Rattle.buslist.specs.Form.{header_right, written, operation_right, operations_right, kind_right, call_right, calls_right, of_the_form};

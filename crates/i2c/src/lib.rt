@@ -1,4 +1,6 @@
 // The I2C master, named and ordered as the Rust's src/i2c.rs: what both engines share.
+#![tactic(auto)]
+
 ghost use Rattle.std.specs.Prelude.{[], ◌∷◌, ◌<◌};
 ghost use Rattle.registers.specs.Word.{none, one, START, STOP};
 ghost use Rattle.registers.specs.Machine.{Step, bring_up, reset, send_start};
@@ -10,7 +12,7 @@ use registers::{Bits, Outcome, Progress, modify_cr1, write};
 use units::Setup;
 
 // The operation before, in a call.
-#[derive(Drop)]
+#[derive(Clone, Copy)]
 pub enum Previous {
     Nothing,
     Write,

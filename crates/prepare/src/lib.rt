@@ -1,4 +1,6 @@
 // The prepares of the polling engine, named and ordered as the Rust's src/i2c.rs: START and the address.
+#![tactic(auto)]
+
 ghost use Rattle.std.specs.Prelude.{◌≡◌, Bool, cond, []};
 ghost use Rattle.registers.specs.Access.{wDR};
 ghost use Rattle.registers.specs.Contract.{Writes, Does};

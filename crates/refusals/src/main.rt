@@ -8,6 +8,8 @@
 // A letter holds until the next letter. The file `stdout` is made from the cases alone, with no run, by this line:
 //
 //   awk '{sub(/ *#.*/,"")}$1=="="{print $2 ": document " $3 ", refusal " $3;n++}END{print n " cases, 0 differ"}' stdin > stdout
+#![tactic(auto)]
+
 use cases::{byte, number, print_name, print_number, word};
 use libc::{STDIN_FILENO, STDOUT_FILENO};
 

@@ -1,4 +1,6 @@
 // Registers, one access at a time: the words and bits of RM0008, how a call can end, one read and one write.
+#![tactic(auto)]
+
 ghost use Rattle.std.specs.Prelude.{◌≡◌, true, false, [], ◌∷◌, ◌+◌, ◌*◌, ◌<◌, ◌≤◌, ◌^◌, length, get_or, leb};
 ghost use Rattle.units.specs.declared.Setup.{Setup};
 ghost use Rattle.registers.specs.Word.{has, with_bit, without_bit, with_bits, without_bits};
@@ -73,14 +75,14 @@ pub const ACK: u32 = 0x0400;
 pub const POS: u32 = 0x0800;
 
 // Where an acknowledge was missing.
-#[derive(Drop)]
+#[derive(Clone, Copy)]
 pub enum Source {
     Address,
     Data,
     Unknown,
 }
 
-#[derive(Drop)]
+#[derive(Clone, Copy)]
 pub enum BusError {
     Overrun,
     NoAcknowledge(Source),
@@ -91,14 +93,14 @@ pub enum BusError {
 }
 
 // Why a run was cut short: every reading is used, or too few record words remain for an access with this code.
-#[derive(Drop)]
+#[derive(Clone, Copy)]
 pub enum Cut {
     NoReadings,
     NoRecord(u8),
 }
 
 // How far a run has come: readings used, accesses made, bytes received.
-#[derive(Drop)]
+#[derive(Clone, Copy)]
 pub struct Progress {
     pub used: usize,
     pub made: usize,
@@ -106,7 +108,7 @@ pub struct Progress {
 }
 
 // How a call, or a part of one, ended.
-#[derive(Drop)]
+#[derive(Clone, Copy)]
 pub enum Outcome {
     Well(Progress),
     Failed(BusError, Progress),
@@ -114,14 +116,14 @@ pub enum Outcome {
 }
 
 // What a read answers: the word, or why the run was cut short.
-#[derive(Drop)]
+#[derive(Clone, Copy)]
 pub enum Taken {
     Word(u32, Progress),
     CutShort(Cut, Progress),
 }
 
 // What a check of SR1 answers: the word, its error, or why the run was cut short.
-#[derive(Drop)]
+#[derive(Clone, Copy)]
 pub enum Checked {
     Word(u32, Progress),
     Failed(BusError, Progress),
@@ -129,28 +131,28 @@ pub enum Checked {
 }
 
 // The first error flag of an SR1 word.
-#[derive(Drop)]
+#[derive(Clone, Copy)]
 pub enum Flagged {
     Error(BusError),
     Nothing,
 }
 
 // What a timed wait waits for: an SR1 flag, where a missing acknowledge has this source; or STOP clear in CR1.
-#[derive(Drop)]
+#[derive(Clone, Copy)]
 pub enum Awaited {
     Flag(u32, Source),
     Stop,
 }
 
 // Up to two bits of a word, by weight; 0 is no bit.
-#[derive(Drop)]
+#[derive(Clone, Copy)]
 pub struct Bits(pub u32, pub u32);
 
 // How many words a record entry has.
 pub const ENTRY_WORDS: usize = 2;
 
 // A record entry.
-#[derive(Drop)]
+#[derive(Clone, Copy)]
 pub struct Entry {
     pub code: u32,
     pub value: u32,

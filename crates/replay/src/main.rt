@@ -8,6 +8,8 @@
 // them alone, with no run, by the line below:
 //
 //   od -An -v -w4 -tu4 --endian=little data/vectors.bin | awk '{w[NR-1]=$1}END{for(i=0;i<NR;i+=9+int((w[i]+3)/4)+w[i+1]+2*w[i+7]+int((w[i+8]+3)/4)){n[w[i+4]]++;c++}for(a=0;a<28;a++)if(n[a])print "answer " a ": " n[a] " cases";print c " cases, 0 differ"}' > stdout
+#![tactic(auto)]
+
 ghost use Rattle.std.specs.Prelude.{◌≤◌};
 
 use buffers::{first_bytes, first_words, run_on, to_words, word_at};

@@ -16,6 +16,8 @@
 // are hexadecimal with as many digits as are printed, and a case has at most one line each of g and c.
 //
 //   awk 'BEGIN{split("r sr1,r sr2,r cr1,r dr,r cyc,,,,,,w cr1,w cr2,w ccr,w trise,w sr1,w dr",R,",")}function t(x){print "  document " x ", run " x}{sub(/ *#.*/,"")}$1=="="{print $2 ":";x="";n++}$1=="a"{for(i=2;i<NF;i+=2)t(R[$i] " " substr($(i+1),3))}$1=="g"{x="rx";for(i=2;i<=NF;i++)x=x " " substr($i,3)}$1=="c"{$1="end";c=$0}$1=="!"{if(x!="")t(x);t(c);print "  agrees"}END{print n " cases, 0 differ"}' stdin > stdout
+#![tactic(auto)]
+
 use buffers::{entries_in, entry_at, first_bytes, first_entries, first_words, run_on};
 use cases::{byte, number, print_name, word};
 use engine::Counts;

@@ -1,6 +1,8 @@
 // A run as text on standard output, written field by field: no array holds the text of more than one field, and a space
 // or a line end is written by itself (C-12). Each function answers whether all of it was written, and stops at the
 // first field that was not.
+#![tactic(auto)]
+
 use libc::STDOUT_FILENO;
 use registers::Entry;
 

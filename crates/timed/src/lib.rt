@@ -1,4 +1,6 @@
 // Timed waits, named as the macros of the Rust's src/i2c/blocking.rs: one poll, and polls until the time is out.
+#![tactic(auto)]
+
 ghost use Rattle.std.specs.Prelude.{◌≡◌, true, [], ◌∷◌, nat_le};
 ghost use Rattle.units.specs.declared.Setup.{Setup};
 ghost use Rattle.registers.specs.declared.Awaited.{Awaited};

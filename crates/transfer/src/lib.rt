@@ -1,4 +1,6 @@
 // The bytes of a polling operation, once it is prepared, named and ordered as the Rust's src/i2c.rs.
+#![tactic(auto)]
+
 ghost use Rattle.std.specs.Prelude.{◌≤◌};
 ghost use Rattle.units.specs.declared.Setup.{Setup};
 ghost use Rattle.buslist.specs.Meaning.{Operation};

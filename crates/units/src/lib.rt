@@ -1,35 +1,37 @@
 // Units of frequency and time, the settings of a run, and the register words that they give.
+#![tactic(auto)]
+
 ghost use Rattle.std.specs.Prelude.{◌≡◌, ◌*◌, ◌/◌, ◌<◌};
 ghost use Rattle.units.specs.Time.{to_mhz, to_cycles};
 ghost use Rattle.units.specs.Speed.{mode_known, mode_of, frequency_out, cr2_word, trise_word, divisor, floor, speed_flags, ccr_field, ccr_word};
 ghost use Rattle.units.specs.Setup.{setup_of};
 
 // A clock or a bus frequency.
-#[derive(Drop)]
+#[derive(Clone, Copy)]
 pub struct Hertz(pub u32);
 
 // A timeout as the settings have it.
-#[derive(Drop)]
+#[derive(Clone, Copy)]
 pub struct Micros(pub u32);
 
 // A timeout as a wait counts it. It is wider than the cycle counter, so that a timeout past the counter's
 // range (cause 23) is a value too.
-#[derive(Drop)]
+#[derive(Clone, Copy)]
 pub struct Cycles(pub u64);
 
-#[derive(Drop)]
+#[derive(Clone, Copy)]
 pub enum DutyCycle {
     Ratio2to1,
     Ratio16to9,
 }
 
-#[derive(Drop)]
+#[derive(Clone, Copy)]
 pub enum Mode {
     Standard,
     Fast(DutyCycle),
 }
 
-#[derive(Drop)]
+#[derive(Clone, Copy)]
 pub struct Settings {
     pub pclk1: Hertz,
     pub sysclk: Hertz,
@@ -42,7 +44,7 @@ pub struct Settings {
 }
 
 // What the settings come to before a run: the speed words, and the limits of the timed waits.
-#[derive(Drop)]
+#[derive(Clone, Copy)]
 pub struct Setup {
     pub cr2: u32,
     pub trise: u32,
