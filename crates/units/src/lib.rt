@@ -167,6 +167,7 @@ pub fn ccr_word(pclk1: Hertz, mode: Mode, frequency: Hertz) -> u32
     field + speed_flags(mode)
 }
 
+#[tactic(auto, unfolding(crate::specs::Setup::setup_of))]
 pub fn setup_of(settings: Settings) -> Setup
     requires { 0 < settings.frequency.0 }
     ensures { result ≡ setup_of settings }
