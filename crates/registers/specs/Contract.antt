@@ -1,6 +1,6 @@
 -- The forms of the contracts: what a function's answer means, by the state that it leaves and what comes of the rest of the run from there.
 use Rattle.std.specs.Prelude.{ℕ, ◌-◌, ◌*◌, ◌≤◌, ◌≡◌, List, ◌++◌, length}
-use Rattle.std.specs.Borrow.{Bor}
+use Rattle.std.specs.Borrow.{Bor, MutBor}
 use denote.Triple.Both.{Both}
 use Rattle.units.specs.declared.Setup.{Setup}
 use Rattle.registers.specs.declared.Source.{Source}
@@ -90,10 +90,13 @@ handled s h rs lg rx (Outcome.CutShort c b) p = After.cut_short c (at rs lg rx b
 pub record WaitsFrom (s : Setup) (h : Handler) (q : List Step) (st : State) (rs lg rx : List ℕ) (o : Outcome) : Type 0 where
   pub is : (p : List Step) → resume s (q ++ p) st ≡ handled s h rs lg rx o p
 
--- The same of a function's parameters, as its contract has them. A slice is what it holds at the call (`entry`) and at the return (`exit`).
+-- The same of a function's parameters, as its contract has them. A slice, and one that the function writes to, is what it holds at the call (`entry`) and at the return (`exit`).
 
 abbrev pub Slice : Type 0
 Slice = Both (Bor (List ℕ)) (Bor (List ℕ))
+
+abbrev pub MutSlice : Type 0
+MutSlice = Both (MutBor (List ℕ)) (MutBor (List ℕ))
 
 -- n of so many bytes fit, each with its wait over at once: two readings and three entries a byte
 abbrev pub BytesFit : (readings log : Slice) → Progress → (count n : ℕ) → Type 0
@@ -101,28 +104,28 @@ BytesFit readings log b count n =
     (n ≤ count) × (2 * n ≤ length readings.entry.now - b.used) × (3 * n ≤ entries_in (length log.entry.now) - b.made)
 
 -- one read of the register c, whatever is received
-abbrev pub Reads : ℕ → (readings log : Slice) → Progress → Taken → Type 0
+abbrev pub Reads : ℕ → (readings : Slice) (log : MutSlice) → Progress → Taken → Type 0
 Reads c readings log b r = (rx : List ℕ) → ReadsFrom c (at readings.entry.now log.entry.now rx b) readings.entry.now log.exit.now rx r
 
 -- one write of v to the register c, whatever the readings
-abbrev pub Writes : (c v : ℕ) → (log : Slice) → Progress → Outcome → Type 0
+abbrev pub Writes : (c v : ℕ) → (log : MutSlice) → Progress → Outcome → Type 0
 Writes c v log b r = (rs rx : List ℕ) → WritesFrom c v (at rs log.entry.now rx b) rs log.exit.now rx r
 
 -- one check
-abbrev pub Checks : Source → (readings log : Slice) → Progress → Checked → Type 0
+abbrev pub Checks : Source → (readings : Slice) (log : MutSlice) → Progress → Checked → Type 0
 Checks n readings log b r = (rx : List ℕ) → ChecksFrom n (at readings.entry.now log.entry.now rx b) readings.entry.now log.exit.now rx r
 
 -- the steps q with this setup, and with every setup
-abbrev pub DoesWith : Setup → List Step → (readings log : Slice) → Progress → Outcome → Type 0
+abbrev pub DoesWith : Setup → List Step → (readings : Slice) (log : MutSlice) → Progress → Outcome → Type 0
 DoesWith s q readings log b r = (rx : List ℕ) → Refines s q (at readings.entry.now log.entry.now rx b) readings.entry.now log.exit.now rx r
 
-abbrev pub Does : List Step → (readings log : Slice) → Progress → Outcome → Type 0
+abbrev pub Does : List Step → (readings : Slice) (log : MutSlice) → Progress → Outcome → Type 0
 Does q readings log b r = (s : Setup) → DoesWith s q readings log b r
 
 -- the steps q with this setup, where bytes are received
-abbrev pub Receives : Setup → List Step → (readings log rx : Slice) → Progress → Outcome → Type 0
+abbrev pub Receives : Setup → List Step → (readings : Slice) (log rx : MutSlice) → Progress → Outcome → Type 0
 Receives s q readings log rx b r = Refines s q (at readings.entry.now log.entry.now rx.entry.now b) readings.entry.now log.exit.now rx.exit.now r
 
 -- a timed wait with this setup, whose error is left to this handler
-abbrev pub Waits : Setup → Handler → List Step → (readings log : Slice) → Progress → Outcome → Type 0
+abbrev pub Waits : Setup → Handler → List Step → (readings : Slice) (log : MutSlice) → Progress → Outcome → Type 0
 Waits s h q readings log b r = (rx : List ℕ) → WaitsFrom s h q (at readings.entry.now log.entry.now rx b) readings.entry.now log.exit.now rx r
