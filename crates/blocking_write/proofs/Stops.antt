@@ -15,7 +15,7 @@ use Rattle.registers.specs.Machine.{Step, Handler, handle, stop_for, next}
 use Rattle.registers.specs.State.{State, After, Took, at, then, taking, resume, read, write, received, entry}
 use Rattle.registers.specs.Contract.{outcome, handled, Refines, Reaches, WaitsFrom}
 use Rattle.registers.proofs.Laws.{read_law, write_law, write_unfailed, fail_law, done_law}
-use Rattle.registers.proofs.Steps.{NotWell, not_first}
+use Rattle.registers.proofs.Steps.{NotWell}
 
 -- what stands after a failure does not matter, nor after STOP and a failure
 failed_same : (s : Setup) (e : BusError) (p p' : List Step) (st : State) → resume s (Step.fail e ∷ p) st ≡ resume s (Step.fail e ∷ p') st
@@ -56,7 +56,7 @@ pub wait_stops : {s : Setup} {q₀ : List Step} {st₁ : State} {rs lg rx : List
 wait_stops {s} {q₀} {st₁} {rs} {lg} {rx} {o} x q₁ g k = record { is = λ p. g.is p ∙ rw append_assoc (x.is (q₁ ++ p) ∙ go p o k) }
   where
     go : (p : List Step) (o : Outcome) → NotWell o → handled s Handler.stops rs lg rx o (q₁ ++ p) ≡ handled s Handler.stops rs lg rx o p
-    go p (Outcome.Well b) k = not_first k
+    go p (Outcome.Well b) k = absurd (k b refl)
     go p (Outcome.Failed e b) k = stops_same s e (q₁ ++ p) p (at rs lg rx b)
     go p (Outcome.CutShort c b) k = refl
 

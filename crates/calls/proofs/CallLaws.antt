@@ -24,7 +24,7 @@ use Rattle.registers.specs.Machine.{Step}
 use Rattle.registers.specs.State.{State, at, resume, then}
 use Rattle.registers.specs.Contract.{Refines, outcome}
 use Rattle.registers.proofs.Laws.{done_law}
-use Rattle.registers.proofs.Steps.{NotWell, not_first}
+use Rattle.registers.proofs.Steps.{NotWell}
 use Rattle.i2c.specs.declared.Previous.{Previous}
 use Rattle.i2c.specs.Polling.{polling_steps, is_last}
 use Rattle.blocking_write.specs.Write.{write_without_stop}
@@ -48,7 +48,7 @@ module _ {s : Setup} {cs : List (List Step)} {st : State} {k : ℕ} {c : List St
     where
       go : (o : Outcome) → resume s c st₁ ≡ then (outcome rs lg rx o) (resume s []) → NotWell o
           → more_calls k (after_calls 1 (resume s c st₁) (calls_run s cs')) ≡ final rs lg rx k o
-      go (Outcome.Well b) e h = not_first h
+      go (Outcome.Well b) e h = absurd (h b refl)
       go (Outcome.Failed a b) e h = rw (e, add-zero)
       go (Outcome.CutShort a b) e h = rw (e, add-zero)
 
@@ -211,7 +211,7 @@ module _ {s : Setup} {q : List Step} {st : State} {rs lg rx : List ℕ} {o : Out
   first_stops h = rw first_steps (go o h)
     where
       go : (o : Outcome) → NotWell o → after_calls 0 (then (outcome rs lg rx o) (resume s [])) f ≡ final rs lg rx 0 o
-      go (Outcome.Well b) h = not_first h
+      go (Outcome.Well b) h = absurd (h b refl)
       go (Outcome.Failed a b) h = refl
       go (Outcome.CutShort a b) h = refl
 

@@ -5,8 +5,6 @@ use native.Mathlib.Omega.{arith}
 use mathlib.Core.Bool.{Bool, true, false, cond}
 use mathlib.Core.Path.{◌≡◌, refl, sym, ap, ◌∙◌}
 use mathlib.Core.List.{List, [], ◌∷◌, ◌++◌, append_assoc}
-use types.Run.{OneOf}
-use denote.Enum.Declared.{tag_of}
 use Rattle.units.specs.declared.Setup.{Setup}
 use Rattle.registers.specs.declared.Progress.{Progress}
 use Rattle.registers.specs.declared.BusError.{BusError}
@@ -23,11 +21,10 @@ use Rattle.registers.specs.Machine.{Step, Act, access, next, check_word, after_c
 use Rattle.registers.specs.State.{State, After, Took, Found, at, then, taking, finding, entry, received, room, resume, read, write, check, check_flags, found_then, found_word}
 use Rattle.registers.specs.Contract.{outcome, checked, checked_of, check_outcome, failed_of, word_of, ReadsFrom, WritesFrom, ChecksFrom, Refines, Reaches}
 use Rattle.registers.proofs.Laws.{read_law, write_law, fail_law, received_other, read-room, write-room}
-use Rattle.registers.proofs.Steps.{not_first}
 
 -- the tags of a check without a word
 abbrev pub NoWord : Checked → Type 0
-NoWord r = OneOf (1 ∷ 2 ∷ []) (tag_of C.the_type r)
+NoWord r = (v : ℕ) (b : Progress) → r ≡ Checked.Word v b → ⊥
 
 -- the answer of a check, from its read and its clear
 module _ {st : State} {rs lg rx : List ℕ} {r : Taken} (x : ReadsFrom SR1 st rs lg rx r) {n : Source} where
@@ -118,7 +115,7 @@ module _ {s : Setup} {q : List Step} {st : State} {i : Step} {q₁ : List Step} 
   check_stops h = record { is = λ p. g.is p ∙ check_law d (q₁ ++ p) st₁ ∙ rw (← x.is) (go r h p _) }
     where
       go : (r : Checked) → NoWord r → (p : List Step) (k : ℕ → State → After) → finding (checked rs lg rx r) k ≡ then (outcome rs lg rx (check_outcome r)) (resume s p)
-      go (Checked.Word v b) h p k = not_first h
+      go (Checked.Word v b) h p k = absurd (h v b refl)
       go (Checked.Failed e b) h p k = refl
       go (Checked.CutShort c b) h p k = refl
 

@@ -3,37 +3,32 @@
 use Prim.Native.Nat.{ℕ, zero, suc, ◌+◌, ◌-◌, ◌≤◌, ◌<◌}
 use native.Mathlib.Omega.{arith}
 use mathlib.Core.Bool.{true, false}
-use mathlib.Core.Logic.{⊎_elim}
 use mathlib.Core.Path.{◌≡◌, refl, sym, ap, ◌∙◌}
 use mathlib.Core.List.{List, [], ◌∷◌, ◌++◌, append_assoc, append-nil}
 use lib.ListN.{length, drop, length-drop}
 use lib.Dec.{eqb}
-use types.Run.{OneOf}
-use denote.Enum.Declared.{tag_of}
 use Rattle.units.specs.declared.Setup.{Setup}
 use Rattle.registers.specs.declared.Progress.{Progress}
 use Rattle.registers.specs.declared.BusError.{BusError}
 use Rattle.registers.specs.declared.Cut.{Cut}
 use Rattle.registers.specs.declared.Taken.{Taken}
 use Rattle.registers.specs.declared.Outcome.{Outcome}
-use Rattle.registers.specs.contracts.Outcome as O
 use Rattle.registers.specs.Access.{CYC, DR, is_read, is_data, cut, Access}
 use Rattle.registers.specs.Machine.{Step, Handler, handle, Act, access, next}
 use Rattle.registers.specs.State.{State, After, Took, at, word, then, taking, entry, recorded, received, room, left, resume, read_one, read}
 use Rattle.registers.specs.Contract.{outcome, taken, outcome_of, handled, ReadsFrom, WritesFrom, Refines, Reaches, WaitsFrom}
 use Rattle.registers.proofs.Laws.{read_law, write_law, fail_law, done_law, received_other, read-room, resume_fewer}
 
--- the tags of an outcome that is not well
+-- an outcome that is not well, and one that is no bus error
 abbrev pub NotWell : Outcome → Type 0
-NotWell o = OneOf (1 ∷ 2 ∷ []) (tag_of O.the_type o)
+NotWell o = (b : Progress) → o ≡ Outcome.Well b → ⊥
 
--- no tag is two numbers at once
-pub not_first : {A : Type 0} → OneOf (1 ∷ 2 ∷ []) 0 → A
-not_first h = ⊎_elim (λ (e : ◌≡◌ {A = ℕ} 0 1). absurd (omega arith)) (λ (e : ◌≡◌ {A = ℕ} 0 2). absurd (omega arith)) h
+abbrev pub NotFailed : Outcome → Type 0
+NotFailed o = (e : BusError) (b : Progress) → o ≡ Outcome.Failed e b → ⊥
 
 not_well : (o : Outcome) → NotWell o → (rs lg rx : List ℕ) (k k' : State → After)
     → then (outcome rs lg rx o) k ≡ then (outcome rs lg rx o) k'
-not_well (Outcome.Well b) h rs lg rx k k' = not_first h
+not_well (Outcome.Well b) h rs lg rx k k' = absurd (h b refl)
 not_well (Outcome.Failed e b) h rs lg rx k k' = refl
 not_well (Outcome.CutShort c b) h rs lg rx k k' = refl
 
@@ -197,12 +192,12 @@ wait_fails {s} {h} {q₀} x q₁ g {e} k = record { is = λ p. g.is p ∙ rw (ap
 
 -- it is the last thing done, and did not fail
 pub wait_last : {s : Setup} {h : Handler} {q₀ : List Step} {st₁ : State} {rs lg rx : List ℕ} {o : Outcome} → WaitsFrom s h q₀ st₁ rs lg rx o
-    → {q : List Step} {st : State} → Reaches s q st q₀ st₁ → OneOf (0 ∷ 2 ∷ []) (tag_of O.the_type o) → Refines s q st rs lg rx o
+    → {q : List Step} {st : State} → Reaches s q st q₀ st₁ → NotFailed o → Refines s q st rs lg rx o
 wait_last {s} {h} {q₀} {st₁} {rs} {lg} {rx} {o} x g k = record { is = λ p. g.is p ∙ x.is p ∙ go p o k }
   where
-    go : (p : List Step) (o : Outcome) → OneOf (0 ∷ 2 ∷ []) (tag_of O.the_type o) → handled s h rs lg rx o p ≡ then (outcome rs lg rx o) (resume s p)
+    go : (p : List Step) (o : Outcome) → NotFailed o → handled s h rs lg rx o p ≡ then (outcome rs lg rx o) (resume s p)
     go p (Outcome.Well b) k = refl
-    go p (Outcome.Failed e b) k = ⊎_elim (λ (e : ◌≡◌ {A = ℕ} 1 0). absurd (omega arith)) (λ (e : ◌≡◌ {A = ℕ} 1 2). absurd (omega arith)) k
+    go p (Outcome.Failed e b) k = absurd (k e b refl)
     go p (Outcome.CutShort c b) k = refl
 
 -- the last thing done is a wait

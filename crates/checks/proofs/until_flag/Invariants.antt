@@ -1,0 +1,15 @@
+use native.Mathlib.Omega.{arith}
+use mathlib.Core.Path.{refl, sym, ◌∙◌}
+use mathlib.Core.List.{[]}
+use Rattle.registers.specs.Machine.{Step}
+use Rattle.registers.specs.State.{at, room}
+use Rattle.registers.proofs.Steps.{here, read_step, read_stops, ends_well, read_less}
+use Rattle.checks.proofs.Waits.{Waiting, next_flag}
+use borrow.Author.Rules.{rules}
+use Rattle.checks.proofs.until_flag.Given as goal
+
+abbrev pub invariant-loop-sr1 : goal.invariant-loop-sr1
+invariant-loop-sr1 l = Waiting (Step.flag l.flag) l.readings l.initial.log l.initial.progress l.log l.progress
+
+abbrev pub decreases-loop-sr1 : goal.decreases-loop-sr1
+decreases-loop-sr1 l = room (at l.readings l.log [] l.progress)
