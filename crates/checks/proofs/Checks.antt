@@ -14,7 +14,6 @@ use Rattle.registers.specs.declared.Taken.{Taken}
 use Rattle.registers.specs.declared.Checked.{Checked}
 use Rattle.registers.specs.declared.Outcome.{Outcome}
 use Rattle.registers.specs.declared.Flagged.{Flagged}
-use Rattle.registers.specs.contracts.Checked as C
 use Rattle.registers.specs.Word.{has, BERR}
 use Rattle.registers.specs.Access.{SR1, wSR1, clear_word, Access}
 use Rattle.registers.specs.Machine.{Step, Act, access, next, check_word, after_check}

@@ -1,7 +1,6 @@
 use native.Mathlib.Omega.{arith}
 use mathlib.Core.Path.{refl, sym, ◌∙◌}
 use mathlib.Core.List.{[]}
-use borrow.Author.Tests.{not-true, not-false}
 use Rattle.registers.specs.Machine.{Step}
 use Rattle.registers.specs.State.{at, room}
 use Rattle.registers.proofs.Steps.{here, read_step, read_stops, ends_well, read_less}
@@ -19,7 +18,7 @@ returns-in_default c s rx =
 pub returns-then-not-has : goal.returns-then-not-has
 returns-then-not-has c s rx =
     ends_well (read_step (c.loop-cr1.invariant.0 s rx) (c.read-t.ensures rx) refl refl refl c.in-Word.is
-    (next-stop_clear s _ (sym c.has.ensures ∙ not-true _ c.if-not-has.true)))
+    (next-stop_clear s _ (sym c.has.ensures ∙ c.if-not-has.true)))
 
 pub loop-cr1-smaller : goal.loop-cr1-smaller
 loop-cr1-smaller c = read_less (c.read-t.ensures []) c.in-Word.is
@@ -28,6 +27,6 @@ pub loop-cr1-preserved : goal.loop-cr1-preserved
 loop-cr1-preserved c =
     (
       (λ s rx. read_step (c.loop-cr1.invariant.0 s rx) (c.read-t.ensures rx) refl refl refl c.in-Word.is
-          (next-stop_clear s _ (sym c.has.ensures ∙ not-false _ c.if-not-has.false))),
+          (next-stop_clear s _ (sym c.has.ensures ∙ c.if-not-has.false))),
       omega arith,
     )

@@ -1,7 +1,6 @@
 use native.Mathlib.Omega.{arith}
 use mathlib.Core.Path.{refl, sym, ◌∙◌}
 use mathlib.Core.List.{[]}
-use borrow.Author.Tests.{not-true, not-false}
 use Rattle.registers.specs.Machine.{Step}
 use Rattle.registers.specs.State.{at, room}
 use Rattle.registers.proofs.Steps.{here, read_step, read_stops, ends_well, read_less}
