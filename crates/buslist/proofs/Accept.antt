@@ -129,6 +129,7 @@ module _
       omega (arith, sum_within (sum + adds x) xs f.1)
 
   placed : (sum : ℕ) (xs : List A) {x : A} → all sum xs ≡ true → Memᴰ x xs → Placed right adds total x
+  placed sum [] e m = elim m [ ]
   placed sum (y ∷ xs) e (Memᴰ.head p) =
       let f = simp (steps, and-eq-true_iff) at e in
       rw p (record { sum = sum; stands = f.0; within = sum_within (sum + adds y) xs f.1 })
