@@ -3,7 +3,7 @@ use Rattle.std.specs.Prelude.{ℕ, ◌+◌, ◌*◌, ◌^◌, ◌<◌, ◌≤◌
 use Rattle.units.specs.declared.Setup.{Setup}
 use Rattle.registers.specs.declared.Progress.{Progress}
 use Rattle.registers.specs.State.{at, after_bytes}
-use Rattle.registers.specs.Contract.{Slice, Reaches}
+use Rattle.registers.specs.Contract.{Slice, MutSlice, Reaches}
 use Rattle.blocking_write.specs.Write.{later_bytes}
 
 -- n of the bytes are written, and no count overflows
@@ -13,5 +13,5 @@ pub record WritesFirst (rs lg bs : List ℕ) (b : Progress) (lg' : List ℕ) (n 
   pub made : b.made + 3 * n < 2 ^ 64
   pub done : (s : Setup) (rx : List ℕ) → Reaches s (later_bytes s bs) (at rs lg rx b) (later_bytes s (drop n bs)) (at rs lg' rx (after_bytes b n))
 
-abbrev pub WritesReady : (readings log bytes : Slice) → Progress → ℕ → Type 0
+abbrev pub WritesReady : (readings : Slice) (log : MutSlice) (bytes : Slice) → Progress → ℕ → Type 0
 WritesReady readings log bytes b n = WritesFirst readings.entry.now log.entry.now bytes.entry.now b log.exit.now n

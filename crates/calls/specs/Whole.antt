@@ -11,7 +11,7 @@ use Rattle.registers.specs.declared.Outcome.{Outcome}
 use Rattle.registers.specs.Access.{well, failed, cut_number, number}
 use Rattle.registers.specs.Machine.{Step}
 use Rattle.registers.specs.State.{State, After, at, resume}
-use Rattle.registers.specs.Contract.{outcome_number, Slice}
+use Rattle.registers.specs.Contract.{outcome_number, Slice, MutSlice}
 use Rattle.i2c.specs.declared.Previous.{Previous}
 use Rattle.i2c.specs.Polling.{direction, operation_steps as polling_operation}
 use Rattle.blocking.specs.Blocking.{done_last, close_after, operation_steps as blocking_operation}
@@ -90,7 +90,7 @@ pub record Ends (s : Setup) (cs : List (List Step)) (st : State) (rs lg rx : Lis
   pub is : calls_run s cs st ≡ final rs lg rx k o
 
 -- the calls of a list end so, from the state that a function's parameters are
-abbrev pub RunsCalls : Setup → (list readings log rx : Slice) → Progress → ℕ → Outcome → Type 0
+abbrev pub RunsCalls : Setup → (list readings : Slice) (log rx : MutSlice) → Progress → ℕ → Outcome → Type 0
 RunsCalls s list readings log rx b k o =
     Ends s (map (steps_of s) (calls_of list.entry.now)) (at readings.entry.now log.entry.now rx.entry.now b)
     readings.entry.now log.exit.now rx.exit.now k o

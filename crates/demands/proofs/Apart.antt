@@ -63,6 +63,9 @@ module _ {s : Setup} {P : Type 0} {p q : List Step} (a : Address) where
     writes bs cs (read m ∷ os) [] t u f g k = simp append_assoc (same_bytes bs cs refl refl (λ e. flip modify_or_wait))
     writes bs cs (read m ∷ os) (read n ∷ ps) t u f g k =
         simp append_assoc (same_bytes bs cs refl refl (λ e. prefix (prepare_read a false) (reads m n os ps t u f g (λ es. k (ap₂ (λ x xs. write x ∷ xs) e es)))))
+    writes bs cs [] (write _ ∷ ps) t u f g k = elim u [ ]
+    writes bs cs (write _ ∷ os) ps t u f g k = elim t [ ]
+    writes bs cs (read m ∷ os) (write _ ∷ ps) t u f g k = elim u [ ]
 
     -- two reads, prepared, and what follows each
     reads : (m n : ℕ) (os ps : List Operation) → Turns Previous.Read os → Turns Previous.Read ps
@@ -79,6 +82,9 @@ module _ {s : Setup} {P : Type 0} {p q : List Step} (a : Address) where
     reads m n (write bs ∷ os) (write cs ∷ ps) t u f g k =
         simp append_assoc (same_reads m n refl refl (λ e. prefix request_write (skip (prefix (send_low_byte a) (skip (skip
         (writes bs cs os ps t u f g (λ es. k (ap₂ (λ x xs. read x ∷ xs) e es)))))))))
+    reads (suc m) n [] (read _ ∷ ps) t u f g k = elim u [ ]
+    reads m n (write bs ∷ os) (read _ ∷ ps) t u f g k = elim u [ ]
+    reads m n (read _ ∷ os) ps t u f g k = elim t [ ]
 
 -- what reduced operations of a polling call are: some, each turning the direction, the last no empty read
 abbrev pub PollingForm : List Operation → Type 0
@@ -114,8 +120,10 @@ module _ {s : Setup} {P : Type 0} where
   unfolding polling_steps transfer write_bytes turn turn_read first
   write_or_repeat a [] [] p q t = modifies (apart (omega arith))
   write_or_repeat a [] (read n ∷ os) p q t = flip modify_or_wait
+  write_or_repeat a [] (write _ ∷ os) p q t = elim t [ ]
   write_or_repeat a (b ∷ bs) [] p q t = apart (omega arith)
   write_or_repeat a (b ∷ bs) (read n ∷ os) p q t = apart (omega arith)
+  write_or_repeat a (b ∷ bs) (write _ ∷ os) p q t = elim t [ ]
 
   -- so a write and a read that begins a ten-bit call are told apart
   write_or_ten : (a : Address) (c : ℕ) (bs : List ℕ) (os : List Operation) (p q : List Step) → Turns Previous.Write os
@@ -152,6 +160,8 @@ module _ {s : Setup} {P : Type 0} {p q : List Step} where
   -- two polling calls with a common trace have one address and the same reduced operations
   pub same_polling : (a c : Address) (os ps : List Operation) → PollingForm os → PollingForm ps → (a ≡ c → os ≡ ps → Both s P p q)
       → Both s P (polling_steps false a Previous.Nothing os ++ p) (polling_steps false c Previous.Nothing ps ++ q)
+  same_polling a c [] ps f g k = elim f [ ]
+  same_polling a c (o ∷ os) [] f g k = elim g [ ]
   same_polling a c (o ∷ os) (o' ∷ ps) f g k = rw (begins a o os p, begins c o' ps q) (same_first a c o o' os ps f g k)
 
 -- Blocking

@@ -10,3 +10,4 @@ pub mod ByKind
 pub mod Corollaries
 pub mod Witness
 pub mod ByWidth
+pub mod Examples

@@ -34,12 +34,15 @@ Formed r = Form r.engine r.operations × SevenIn r.engine r.address
 -- a polling call begins with a CR1 read
 first_polling : (a : Address) (os : List Operation) (p : List Step) → PollingForm os → first (polling_steps false a Previous.Nothing os ++ p) ≡ CR1
 unfolding polling_steps turn turn_write turn_read first
+first_polling a [] p h = elim h [ ]
 first_polling a (write bs ∷ os) p h = refl
 first_polling (Address.Seven a) (read n ∷ os) p h = refl
 first_polling (Address.Ten a) (read n ∷ os) p h = refl
 
 -- seven-bit addresses of one number
 same_seven : (a c : Address) → SevenIn blocking a → SevenIn blocking c → address_number a ≡ address_number c → a ≡ c
+same_seven (Address.Seven a) (Address.Ten _) h j e = elim j [ ]
+same_seven (Address.Ten _) c h j e = elim h [ ]
 same_seven (Address.Seven a) (Address.Seven c) h j e = ap Address.Seven e
 
 module _ {s : Setup} {P : Type 0} {p q : List Step} where
@@ -120,6 +123,7 @@ mutual
 -- one more operation before some leaves the last one
 more_full : (o : Operation) (os : List Operation) → PollingForm os → Full (o ∷ os)
 unfolding ends_empty
+more_full o [] h = elim h [ ]
 more_full o (o' ∷ os) h = h.1
 
 -- joined operations have the form of a polling call

@@ -86,7 +86,9 @@ shaped_steps : (s : Setup) (a : Address) {k : ℕ} {os : List Operation} → Sha
     → operations_steps s (engine_of k) (early k) a Previous.Nothing (performed k os) ≡ operations_steps s (engine_of k) false a Previous.Nothing (reduced_operations (engine_of k) os)
 unfolding operations_steps performed reduced_operations engine_of early joined dropped gather polling_steps turn ends_empty
 shaped_steps s a polling_write h = refl
+shaped_steps s a (polling_read {n = zero}) h = elim h [ ]
 shaped_steps s a (polling_read {n = suc n}) h = refl
+shaped_steps s a (polling_write_read {n = zero}) h = elim h [ ]
 shaped_steps s a (polling_write_read {n = suc n}) h = refl
 shaped_steps s a (transaction {os}) h = joined_steps a os h
 shaped_steps s a blocking_write h = refl

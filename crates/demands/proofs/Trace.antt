@@ -60,12 +60,14 @@ first (i ∷ p) = code_of (access i)
 
 -- its code
 made_code : (a : Act) (m : Entry) → Made a m → m.code ≡ code_of a
+made_code (Act.halt e) m h = elim h [ ]
 made_code (Act.make (Access.read r)) m h = h
 made_code (Act.make (Access.write r v)) m h = h.0
 
 -- a trace's first code is that of the first access
 first_code : (s : Setup) (m : Entry) (l : List Entry) (p : List Step) → Trace s (m ∷ l) p → m.code ≡ first p
 unfolding Trace first
+first_code s m l [] h = elim h [ ]
 first_code s m l (i ∷ p) h = made_code (access i) m h.0
 
 module _ {s : Setup} {P : Type 0} where
@@ -83,6 +85,8 @@ module _ {s : Setup} {P : Type 0} where
     where
       go : (p q : List Step) → (first p ≡ first q → ⊥) → (l : List Entry) → Trace s l p → Trace s l q → P
       go [] [] n [] g h = absurd (n refl)
+      go [] (_ ∷ _) n [] g h = elim h [ ]
+      go (_ ∷ _) q n [] g h = elim g [ ]
       go p q n (m ∷ l) g h = absurd (n (sym (first_code s m l p g) ∙ first_code s m l q h))
 
   -- the other way round, and for what follows from P, and for two such
@@ -105,6 +109,7 @@ module _ {s : Setup} {P : Type 0} where
   failing {e} {p} {q} = make go
     where
       go : (l : List Entry) → Trace s l (Step.fail e ∷ p) → Trace s l q → P
+      go [] g h = elim g [ ]
       go (m ∷ l) g h = absurd g.0
 
   -- a common prefix
@@ -114,6 +119,7 @@ module _ {s : Setup} {P : Type 0} where
     where
       go : (l : List Entry) (x : List Step) → Trace s l (x ++ p) → Trace s l (x ++ q) → P
       go [] [] g h = (b.at []).so g h
+      go [] (i ∷ x) g h = elim g [ ]
       go (m ∷ l) [] g h = (b.at (m ∷ l)).so g h
       go (m ∷ l) (i ∷ x) g h = go l (next s i m.value ++ x) (rw append_assoc g.1) (rw append_assoc h.1)
 
@@ -127,6 +133,7 @@ module _ {s : Setup} {P : Type 0} where
   puts {r} {v} {w} {p} {q} b = make go
     where
       go : (l : List Entry) → Trace s l (Step.put r v ∷ p) → Trace s l (Step.put r w ∷ q) → P
+      go [] g h = elim g [ ]
       go (m ∷ l) g h = ((b (sym g.0.1 ∙ h.0.1)).at l).so g.1 h.1
 
   -- any two steps, by induction: what takes their places, on the value recorded
@@ -137,6 +144,7 @@ module _ {s : Setup} {P : Type 0} where
   on {i} {j} {p} {q} b = make go
     where
       go : (l : List Entry) → Trace s l (i ∷ p) → Trace s l (j ∷ q) → P
+      go [] g h = elim g [ ]
       go (m ∷ l) g h = (b l (record { so = go l }) m.value).so g.1 h.1
 
   -- the same for two pairs of programs that lead to each other

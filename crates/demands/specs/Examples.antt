@@ -1,5 +1,5 @@
 -- Document 01's proved examples, in one table over the meanings.
-use Rattle.std.specs.Prelude.{ℕ, ◌≡◌, refl}
+use Rattle.std.specs.Prelude.{ℕ, ◌≡◌}
 use mathlib.Core.List.{List, [], ◌∷◌, flat_map, flatten}
 use Rattle.buslist.specs.declared.Address.{Address}
 use Rattle.buslist.specs.Bytes.{half, word}
@@ -19,11 +19,11 @@ use Rattle.registers.specs.declared.Flagged.{Flagged}
 use Rattle.registers.specs.declared.Awaited.{Awaited}
 use Rattle.registers.specs.Word.{has, with_bit, without_bit}
 use Rattle.registers.specs.Access.{cut, clear_word, record_of, reads, received_of, number}
-use Rattle.registers.specs.Machine.{Step, Handler, check_word, after_check, poll_word, since, next, handle, exec, exec_on, exec_full, perform, no_room, after_call, after_bring_up, flat, whole_run, run as machine_run}
+use Rattle.registers.specs.Machine.{Step, Handler, check_word, after_check, poll_word, next, handle, exec, exec_on, exec_full, perform, no_room, after_call, after_bring_up, flat, whole_run, run as machine_run}
 use Rattle.i2c.specs.Polling.{write_bytes, last_read, turn, turn_write, turn_read, transfer, polling_steps}
 use Rattle.calls.specs.Calls.{early, operations_steps, performed, steps_of}
 use Rattle.engine.specs.Run.{Result, run, result, accepted_run, counts_of}
-use Rattle.demands.specs.Compare.{reduced_operations, reduced}
+use Rattle.demands.specs.Compare.{reduced}
 use Rattle.engine.specs.Speed.{speed_cr2, speed_trise, speed_ccr}
 
 -- settings at 36 MHz, Standard: sysclk, frequency, start timeout, start retries, address timeout, data timeout
@@ -57,13 +57,13 @@ pub with_timeouts : ℕ → ℕ → ℕ → List ℕ
 with_timeouts start address «data» = write_list (settings 72000000 100000 start 0 address «data»)
 
 -- the record words of the run that document 01 prints: code and value of each access
-pub printed : List ℕ
+unfoldable pub printed : List ℕ
 printed =
     12 ∷ 0x24 ∷ 14 ∷ 0x25 ∷ 13 ∷ 0xb4 ∷ 3 ∷ 0 ∷ 11 ∷ 1 ∷ 3 ∷ 1 ∷ 15 ∷ 0 ∷ 3 ∷ 1 ∷ 11 ∷ 0x101 ∷ 1 ∷ 1 ∷ 1 ∷ 1 ∷ 2 ∷ 3 ∷ 16 ∷ 0xa0
     ∷ 1 ∷ 2 ∷ 2 ∷ 7 ∷ 1 ∷ 0x80 ∷ 16 ∷ 0x2a ∷ 1 ∷ 0x84 ∷ 3 ∷ 1 ∷ 11 ∷ 0x201 ∷ 3 ∷ 1 ∷ []
 
 -- its run: 36 MHz, Standard 100,000, other settings 0, with these readings and the buffers of `busrun`
-pub first_run : Result
+unfoldable pub first_run : Result
 first_run = run (at_frequency 100000) (0 ∷ 1 ∷ 1 ∷ 1 ∷ 1 ∷ 3 ∷ 2 ∷ 7 ∷ 0x80 ∷ 0x84 ∷ 1 ∷ 1 ∷ []) 4096 16000
 
 pub record Table : Type 0 where
@@ -104,26 +104,3 @@ computed l rx = refusal l rx
 unfoldable pub ran : List ℕ → List ℕ → ℕ → ℕ → Result
 unfolding run result accepted_run counts_of setup_of steps_of operations_steps performed engine_of early operation_of address_of has with_bit without_bit cut clear_word record_of reads received_of number check_word after_check next exec exec_on exec_full perform no_room after_call after_bring_up machine_run whole_run flatten handle write_bytes last_read turn turn_write turn_read transfer polling_steps
 ran l rs rx words = run l rs rx words
-
-pub table : Table
-unfolding computed ran first_run printed since check_word poll_word reduced reduced_operations joined gather engine_of
-table =
-    record {
-      p1_record = refl;
-      p1_received = refl;
-      p1_counts = refl;
-      p2 = (refl, refl);
-      p3 = refl;
-      p4 = refl;
-      p5 = (refl, refl);
-      p6 = refl;
-      p7 = refl;
-      p7_start = refl;
-      p7_address = refl;
-      p7_data = refl;
-      p8_out = λ s w h. refl;
-      p8_in = λ s w h. refl;
-      p9_polling = λ n. refl;
-      p9_blocking = λ n. refl;
-      p10 = refl;
-    }

@@ -7,7 +7,7 @@ use Rattle.buslist.specs.Refusal.{refusal}
 use Rattle.buslist.specs.Meaning.{calls_of}
 use Rattle.registers.specs.Access.{entries_in, record_of, reads, received_of, number}
 use Rattle.registers.specs.Machine.{Log, flat, WholeRun, whole_run}
-use Rattle.registers.specs.Contract.{Slice}
+use Rattle.registers.specs.Contract.{Slice, MutSlice}
 use Rattle.engine.specs.declared.Counts.{Counts}
 use Rattle.calls.specs.Calls.{steps_of}
 
@@ -71,8 +71,8 @@ pub record HostRunsTo (list readings rx lg rx' lg' array : List ℕ) : Type 0 wh
   pub told : array ≡ in_order counts
 
 -- both, said of a function's own parameters: a slice as it is at the call (`entry`) and at the return (`exit`)
-abbrev pub Runs : (list readings rx log : Slice) → Counts → Type 0
+abbrev pub Runs : (list readings : Slice) (rx log : MutSlice) → Counts → Type 0
 Runs list readings rx log c = RunsTo list.entry.now readings.entry.now rx.entry.now log.entry.now rx.exit.now log.exit.now c
 
-abbrev pub HostRuns : (list readings rx log counts : Slice) → Type 0
+abbrev pub HostRuns : (list readings : Slice) (rx log counts : MutSlice) → Type 0
 HostRuns list readings rx log counts = HostRunsTo list.entry.now readings.entry.now rx.entry.now log.entry.now rx.exit.now log.exit.now counts.exit.now

@@ -1,0 +1,31 @@
+-- Document 01's proved examples hold.
+-- Assumes nothing.
+use Rattle.std.specs.Prelude.{refl}
+use Rattle.registers.specs.Machine.{since, check_word, poll_word}
+use Rattle.buslist.specs.Meaning.{engine_of}
+use Rattle.buslist.specs.Combined.{gather, joined}
+use Rattle.demands.specs.Compare.{reduced_operations, reduced}
+use Rattle.demands.specs.Examples.{first_run, printed, Table, computed, ran}
+
+pub table : Table
+unfolding computed ran first_run printed since check_word poll_word reduced reduced_operations joined gather engine_of
+table =
+    record {
+      p1_record = refl;
+      p1_received = refl;
+      p1_counts = refl;
+      p2 = (refl, refl);
+      p3 = refl;
+      p4 = refl;
+      p5 = (refl, refl);
+      p6 = refl;
+      p7 = refl;
+      p7_start = refl;
+      p7_address = refl;
+      p7_data = refl;
+      p8_out = λ s w h. refl;
+      p8_in = λ s w h. refl;
+      p9_polling = λ n. refl;
+      p9_blocking = λ n. refl;
+      p10 = refl;
+    }
