@@ -1,16 +1,10 @@
-use Prim.Native.Nat.{ℕ}
-use native.Mathlib.Omega.{arith}
-use mathlib.Core.Logic.{⊎_elim}
 use mathlib.Core.Path.{◌≡◌, refl}
 use mathlib.Core.List.{[], ◌∷◌}
-use types.Run.{OneOf}
-use denote.Enum.Declared.{tag_of}
 use Rattle.units.specs.declared.Setup.{Setup}
 use Rattle.registers.specs.declared.Source.{Source}
 use Rattle.registers.specs.declared.BusError.{BusError}
 use Rattle.registers.specs.Word.{none, one, STOP}
 use Rattle.registers.specs.Machine.{Step, Handler, handle, stop_for}
-use Rattle.registers.specs.contracts.BusError as E
 use Rattle.registers.proofs.Steps.{here, rewritten, call_step, call_stops, ends_failed}
 use borrow.Author.Rules.{rules}
 use Rattle.blocking_write.proofs.stop_for.Goals as goal
@@ -21,12 +15,10 @@ stops_unacknowledged : (s : Setup) (e : BusError) {n : Source} → e ≡ BusErro
 unfolding handle stop_for
 stops_unacknowledged s e k = rw k
 
-stops_other : (s : Setup) (e : BusError) → OneOf (0 ∷ 2 ∷ 3 ∷ 4 ∷ 5 ∷ []) (tag_of E.the_type e) → handle s Handler.stops e ≡ Step.fail e ∷ []
+stops_other : (s : Setup) (e : BusError) → ((n : Source) → e ≡ BusError.NoAcknowledge n → ⊥) → handle s Handler.stops e ≡ Step.fail e ∷ []
 unfolding handle stop_for
 stops_other s BusError.Overrun h = refl
-stops_other s (BusError.NoAcknowledge n) h =
-    ⊎_elim (λ (e : ◌≡◌ {A = ℕ} 1 0). absurd (omega arith)) (⊎_elim (λ (e : ◌≡◌ {A = ℕ} 1 2). absurd (omega arith))
-    (⊎_elim (λ (e : ◌≡◌ {A = ℕ} 1 3). absurd (omega arith)) (⊎_elim (λ (e : ◌≡◌ {A = ℕ} 1 4). absurd (omega arith)) (λ (e : ◌≡◌ {A = ℕ} 1 5). absurd (omega arith))))) h
+stops_other s (BusError.NoAcknowledge n) h = absurd (h n refl)
 stops_other s BusError.Timeout h = refl
 stops_other s BusError.Bus h = refl
 stops_other s BusError.Crc h = refl

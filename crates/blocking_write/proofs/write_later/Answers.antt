@@ -13,13 +13,6 @@ use Rattle.registers.proofs.Steps.{here, write_step, write_last, rewritten, wait
 use borrow.Author.Rules.{rules}
 use Rattle.blocking_write.proofs.write_later.Goals as goal
 
-a_byte : (c : tie.Else1 invariant-loop decreases-loop) → At-byte c
-a_byte c =
-    let r = c.before.before.before.before in
-    let l = r.before.before.before in
-    let x = l.before.before.before.before.before in
-    omega (arith, c.if1.false, first_of x.args.bytes.now l.loop.i r.write-ready.ensures, l.loop.invariant.2)
-
 pub loop-i-init : goal.loop-i-init
 loop-i-init c = ((λ s rx e. here), refl, omega arith)
 
@@ -28,54 +21,49 @@ after_bytes-progress-requires c = (c.write_ready-ready.ensures.used, c.write_rea
 
 pub overflow_add-i : goal.overflow_add-i
 overflow_add-i c =
-    omega (arith, first_of c.args.bytes.now c.loop-i.i c.write_ready-ready.ensures, c.loop-i.invariant.2, x)
+    omega (arith, first_of c.args.bytes.now c.loop-i.i c.write_ready-ready.ensures, c.loop-i.invariant.2)
 
 pub returns-then-i-bytes : goal.returns-then-i-bytes
 returns-then-i-bytes c rx =
     let t : length c.args.bytes.now ≤ c.loop-i.i + c.write_ready-ready.result = omega (arith, c.if-i-bytes.true) in
     waits_well (rewritten (no_byte _ _ _ t) (first_step _ _ c.write_ready-ready.ensures c.after_bytes-progress.ensures (c.loop-i.invariant.0 _ rx refl)))
 
--- past the test for the end there is a byte that was not ready
-pub MISSING-At-byte : goal.MISSING-At-byte
-MISSING-At-byte c =
-    c.BAD-loop.i + c.BAD-write-ready.result < length c.args.bytes.now
-
 pub returns-in_default : goal.returns-in_default
 returns-in_default c rx =
+    let b : c.loop-i.i + c.write_ready-ready.result < length c.args.bytes.now = omega (arith, c.if-i-bytes.false, first_of c.args.bytes.now c.loop-i.i c.write_ready-ready.ensures, c.loop-i.invariant.2) in
     wait_stops (c.busy_wait_flag-w.ensures _ _ rx) _
-    (rewritten (next-byte _ refl _ _ (a_byte at_byte)) (first_step _ _ c.write_ready-ready.ensures c.after_bytes-progress.ensures (c.loop-i.invariant.0 _ rx refl)))
+    (rewritten (next-byte _ refl _ _ b) (first_step _ _ c.write_ready-ready.ensures c.after_bytes-progress.ensures (c.loop-i.invariant.0 _ rx refl)))
     c.in_default.not-Well
 
 pub bounds-bytes-i : goal.bounds-bytes-i
-bounds-bytes-i c = a_byte PLACE-Else1
+bounds-bytes-i c = omega (arith, c.if-i-bytes.false, first_of c.args.bytes.now c.loop-i.i c.write_ready-ready.ensures, c.loop-i.invariant.2)
 
 pub returns-in_default-o : goal.returns-in_default-o
 returns-in_default-o c rx =
+    let b : c.loop-i.i + c.write_ready-ready.result < length c.args.bytes.now = omega (arith, c.if-i-bytes.false, first_of c.args.bytes.now c.loop-i.i c.write_ready-ready.ensures, c.loop-i.invariant.2) in
     wait_stops (settles (put_unfailing _ _ refl nothing_fails) (write_last here (c.write-o.ensures _ rx) refl)) _
     (wait_step (c.busy_wait_flag-w.ensures _ _ rx) _
-    (rewritten (next-byte _ refl _ _ (a_byte at_byte)) (first_step _ _ c.write_ready-ready.ensures c.after_bytes-progress.ensures (c.loop-i.invariant.0 _ rx refl)))
+    (rewritten (next-byte _ refl _ _ b) (first_step _ _ c.write_ready-ready.ensures c.after_bytes-progress.ensures (c.loop-i.invariant.0 _ rx refl)))
     c.in-Well.is)
     c.in_default-o.not-Well
 
--- the byte that the loop ends its pass with
-pub MISSING-last_byte : goal.MISSING-last_byte
-MISSING-last_byte c =
-    PLACE-Start
-
 pub overflow_add-i-in-loop-i : goal.overflow_add-i-in-loop-i
 overflow_add-i-in-loop-i c =
-    let l = (last_byte c).before.before.before.before.before.before.before in
-    omega (arith, a_byte (last_byte c), l.before.before.before.before.before)
+    let b : c.loop-i.i + c.write_ready-ready.result < length c.args.bytes.now = omega (arith, c.if-i-bytes.false, first_of c.args.bytes.now c.loop-i.i c.write_ready-ready.ensures, c.loop-i.invariant.2) in
+    omega arith
 
 pub loop-i-smaller : goal.loop-i-smaller
-loop-i-smaller c = omega (arith, a_byte (last_byte c))
+loop-i-smaller c =
+    let b : c.loop-i.i + c.write_ready-ready.result < length c.args.bytes.now = omega (arith, c.if-i-bytes.false, first_of c.args.bytes.now c.loop-i.i c.write_ready-ready.ensures, c.loop-i.invariant.2) in
+    omega arith
 
 pub loop-i-preserved : goal.loop-i-preserved
 loop-i-preserved c =
+    let b : c.loop-i.i + c.write_ready-ready.result < length c.args.bytes.now = omega (arith, c.if-i-bytes.false, first_of c.args.bytes.now c.loop-i.i c.write_ready-ready.ensures, c.loop-i.invariant.2) in
     (
       (λ s rx e. write_step (wait_step (c.busy_wait_flag-w.ensures s _ rx) _
-          (rewritten (next-byte s e _ _ (a_byte at_byte)) (first_step _ _ c.write_ready-ready.ensures c.after_bytes-progress.ensures (c.loop-i.invariant.0 s rx e)))
+          (rewritten (next-byte s e _ _ b) (first_step _ _ c.write_ready-ready.ensures c.after_bytes-progress.ensures (c.loop-i.invariant.0 s rx e)))
           c.in-Well.is) (c.write-o.ensures _ rx) refl c.in-Well-o.is),
       omega (arith, c.loop-i.invariant.1),
-      omega (arith, a_byte at_byte),
+      omega (arith, b),
     )

@@ -9,7 +9,6 @@ use Rattle.registers.specs.State.{at, after_bytes}
 use Rattle.registers.specs.Contract.{Reaches}
 use Rattle.blocking_write.specs.Write.{later_bytes}
 use Rattle.blocking_write.proofs.Bytes.{byte_at_once, none_done, over_at_once}
-use borrow.Author.Tests.{not-false}
 use borrow.Author.Rules.{rules}
 use Rattle.blocking_write.proofs.write_ready.Goals as goal
 
@@ -18,7 +17,7 @@ loop-i-init c = ((λ s rx. none_done s _ _ _ rx _), refl, omega arith)
 
 pub after_bytes-next-requires : goal.after_bytes-next-requires
 after_bytes-next-requires c =
-    (omega (arith, c.loop-i-test.true, c.bytes_that_fit-count.ensures.1, x), omega (arith, c.loop-i-test.true, c.bytes_that_fit-count.ensures.2, x))
+    (omega (arith, c.loop-i-test.true, c.bytes_that_fit-count.ensures.1), omega (arith, c.loop-i-test.true, c.bytes_that_fit-count.ensures.2))
 
 pub first_sr1-requires : goal.first_sr1-requires
 first_sr1-requires c =
@@ -31,8 +30,8 @@ pub returns-then-not-wait_for_flag : goal.returns-then-not-wait_for_flag
 returns-then-not-wait_for_flag c =
     record {
       of_them = omega (arith, c.bytes_that_fit-count.ensures.0, c.loop-i.invariant.2);
-      used = omega (arith, c.bytes_that_fit-count.ensures.1, c.loop-i.invariant.2, x);
-      made = omega (arith, c.bytes_that_fit-count.ensures.2, c.loop-i.invariant.2, x);
+      used = omega (arith, c.bytes_that_fit-count.ensures.1, c.loop-i.invariant.2);
+      made = omega (arith, c.bytes_that_fit-count.ensures.2, c.loop-i.invariant.2);
       done = c.loop-i.invariant.0;
     }
 
@@ -43,12 +42,6 @@ bounds-bytes-i c =
 pub write_at_once-requires : goal.write_at_once-requires
 write_at_once-requires c =
     (omega (arith, ap (λ (z : Progress). z.used) c.after_bytes-next.ensures, c.loop-i-test.true, c.bytes_that_fit-count.ensures.1), omega (arith, ap (λ (z : Progress). z.made) c.after_bytes-next.ensures, c.loop-i-test.true, c.bytes_that_fit-count.ensures.2, c.loop-i.invariant.1))
-
-pub overflow_add-i : goal.overflow_add-i
-overflow_add-i c = search rules
-
-pub loop-i-smaller : goal.loop-i-smaller
-loop-i-smaller c = search rules
 
 pub loop-i-preserved : goal.loop-i-preserved
 loop-i-preserved c =
@@ -66,7 +59,7 @@ pub returns : goal.returns
 returns c =
     record {
       of_them = omega (arith, c.bytes_that_fit-count.ensures.0, c.loop-i.invariant.2);
-      used = omega (arith, c.bytes_that_fit-count.ensures.1, c.loop-i.invariant.2, x);
-      made = omega (arith, c.bytes_that_fit-count.ensures.2, c.loop-i.invariant.2, x);
+      used = omega (arith, c.bytes_that_fit-count.ensures.1, c.loop-i.invariant.2);
+      made = omega (arith, c.bytes_that_fit-count.ensures.2, c.loop-i.invariant.2);
       done = c.loop-i.invariant.0;
     }

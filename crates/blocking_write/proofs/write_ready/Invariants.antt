@@ -9,7 +9,6 @@ use Rattle.registers.specs.State.{at, after_bytes}
 use Rattle.registers.specs.Contract.{Reaches}
 use Rattle.blocking_write.specs.Write.{later_bytes}
 use Rattle.blocking_write.proofs.Bytes.{byte_at_once, none_done, over_at_once}
-use borrow.Author.Tests.{not-false}
 use borrow.Author.Rules.{rules}
 use Rattle.blocking_write.proofs.write_ready.Given as goal
 
