@@ -1,0 +1,15 @@
+use mathlib.Core.List.{[]}
+use Rattle.registers.proofs.Steps.{here, call_step, call_stops, call_last, keeps_fewer, no_setup}
+use borrow.Author.Rules.{rules}
+use Rattle.blocking.proofs.second_last.Goals as goal
+
+pub returns-in_default : goal.returns-in_default
+returns-in_default c s = call_stops (c.send_stop-a.ensures _ _) _ here c.in_default.not-Well
+
+pub read_data-requires : goal.read_data-requires
+read_data-requires c =
+    keeps_fewer (c.send_stop-a.ensures no_setup []) c.in-Well.is c.requires
+
+pub returns : goal.returns
+returns c s =
+    call_last (call_step (c.send_stop-a.ensures _ _) _ here c.in-Well.is) (c.read_data.ensures _)
