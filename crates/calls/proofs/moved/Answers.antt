@@ -10,8 +10,7 @@ use Prim.Native.Nat.{ℕ, zero, suc}
 use native.Mathlib.Omega.{arith}
 use mathlib.Core.Path.{◌≡◌, refl, sym, ◌∙◌}
 use borrow.Author.Rules.{rules}
-use Rattle.calls.proofs.moved.Statement.{statement}
-use Rattle.calls.proofs.moved.Tie as tie
+use Rattle.calls.proofs.moved.Goals as goal
 
 passed_over : (p : Previous) (o : Operation) → empty o ≡ true → done_last p o ≡ p
 passed_over p (Operation.write []) e = refl
@@ -25,39 +24,18 @@ not_passed p (Operation.write (b ∷ bs)) e = refl
 not_passed p (Operation.read zero) e = let z : ◌≡◌ {A = ℕ} 0 1 = cc in absurd (omega arith)
 not_passed p (Operation.read (suc n)) e = refl
 
-returns : tie.Need-returns
+pub returns-then-is_polling : goal.returns-then-is_polling
 unfolding moved
-returns c = rw (polling_call _ (sym c.before.before.is_polling.ensures ∙ c.before.if1.true)) (c.direction.ensures _)
+returns-then-is_polling c = rw (polling_call _ (sym c.is_polling.ensures ∙ c.if-is_polling.true)) (c.direction.ensures _)
 
-returns-2 : tie.Need-returns-2
+pub returns-then-is_empty : goal.returns-then-is_empty
 unfolding moved
-returns-2 c =
-    let at-if1 = c.before.before in
-    let at-is-polling = at-if1.before in
-    let at-start = at-is-polling.before.before in
-    let a = at-start.args in
-    rw (blocking_call _ (sym at-is-polling.is_polling.ensures ∙ at-if1.if1.false))
-    (sym (passed_over a.previous (operation_of a.list.now a.o) (sym c.before.is_empty.ensures ∙ c.if2.true)))
+returns-then-is_empty c =
+    rw (blocking_call _ (sym c.is_polling.ensures ∙ c.if-is_polling.false))
+    (sym (passed_over c.args.previous (operation_of c.args.list.now c.args.o) (sym c.is_empty.ensures ∙ c.if-is_empty.true)))
 
-returns-3 : tie.Need-returns-3
+pub returns : goal.returns
 unfolding moved
-returns-3 c =
-    let at-is-empty = c.before.before in
-    let at-if1 = at-is-empty.before in
-    let at-is-polling = at-if1.before in
-    let at-start = at-is-polling.before.before in
-    let a = at-start.args in
-    rw (blocking_call _ (sym at-is-polling.is_polling.ensures ∙ at-if1.if1.false))
-    (c.direction2.ensures a.list.now ∙ sym (not_passed a.previous (operation_of a.list.now a.o) (sym at-is-empty.is_empty.ensures ∙ c.before.if2.false)))
-
-pub moved_spec : {M : Type 1} → statement M
-moved_spec =
-    tie.close
-    (tie.spec
-    (λ c κs. search rules)
-    (λ c κs. search rules)
-    returns
-    (λ c κs. search rules)
-    returns-2
-    (λ c κs. search rules)
-    returns-3)
+returns c =
+    rw (blocking_call _ (sym c.is_polling.ensures ∙ c.if-is_polling.false))
+    (c.direction-2.ensures c.args.list.now ∙ sym (not_passed c.args.previous (operation_of c.args.list.now c.args.o) (sym c.is_empty.ensures ∙ c.if-is_empty.false)))
