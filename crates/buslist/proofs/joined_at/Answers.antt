@@ -1,4 +1,4 @@
-use Rattle.std.proofs.Common.{sym, ◌∙◌, arith}
+use Rattle.std.proofs.Common.{sym, ap, ◌∙◌, arith}
 use Rattle.buslist.proofs.Accept.{limits, operation_length}
 use Rattle.buslist.proofs.Joining.{joining_start, joining_next, joining_turns, joining_ends}
 use Rattle.buslist.proofs.joined_at.Goals as goal
@@ -11,8 +11,8 @@ overflow_add-length c =
     let p = c.requires in
     let ok = p.3.1 in
     let g = c.loop-next.invariant _ ok in
-    rw c.operation_at-o.ensures
-    (omega (arith, g.some, g.most, g.short, p.2, (limits _ _ ok).most-operations, operation_length _ _ ok c.loop-next.next (omega (arith, c.loop-next-test.true))))
+    let h = ap (λ o. o.length) c.operation_at-o.ensures in
+    omega (arith, h, g.some, g.most, g.short, p.2, (limits _ _ ok).most-operations, operation_length _ _ ok c.loop-next.next (omega (arith, c.loop-next-test.true)))
 
 pub loop-next-preserved : goal.loop-next-preserved
 loop-next-preserved c rx ok =
