@@ -3,4 +3,3 @@ pub mod Plan
 pub mod Goes
 pub mod Received
 pub mod Result
-pub mod Pass
