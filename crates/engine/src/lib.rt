@@ -157,7 +157,7 @@ pub fn run_into(list: &[u8], readings: &[u32], rx: &mut [u8], log: &mut [u32], c
 
 // The run, by a struct that is lent to be changed in place.
 pub fn run_counted(list: &[u8], readings: &[u32], rx: &mut [u8], log: &mut [u32]) -> Counts
-    ensures { Runs list readings rx log result }
+    ensures counted { Runs list readings rx log result }
 {
     let mut counts = Counts {
         answer: 0,

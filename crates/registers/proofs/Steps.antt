@@ -1,6 +1,6 @@
 -- How a function's answer carries the run on: where it is a word or well, to what is left of the steps; where not, to the end.
 -- Assumes nothing.
-use Prim.Native.Nat.{ℕ, zero, suc, ◌+◌, ◌-◌, ◌≤◌, ◌<◌}
+use Prim.Native.Nat.{ℕ, zero, suc, ◌+◌, ◌≤◌, ◌<◌}
 use native.Mathlib.Omega.{arith}
 use mathlib.Core.Bool.{true, false}
 use mathlib.Core.Path.{◌≡◌, refl, sym, ap, ◌∙◌}
@@ -15,7 +15,7 @@ use Rattle.registers.specs.declared.Taken.{Taken}
 use Rattle.registers.specs.declared.Outcome.{Outcome}
 use Rattle.registers.specs.Access.{CYC, DR, is_read, is_data, cut, Access}
 use Rattle.registers.specs.Machine.{Step, Handler, handle, Act, access, next}
-use Rattle.registers.specs.State.{State, After, Took, at, word, then, taking, entry, recorded, received, room, left, resume, read_one, read}
+use Rattle.registers.specs.State.{State, After, Took, at, then, taking, entry, recorded, received, room, left, resume, read_one, read}
 use Rattle.registers.specs.Contract.{outcome, taken, outcome_of, handled, ReadsFrom, WritesFrom, Refines, Reaches, WaitsFrom}
 use Rattle.registers.proofs.Laws.{read_law, write_law, fail_law, done_law, received_other, read-room, resume_fewer}
 

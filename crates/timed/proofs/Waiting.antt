@@ -11,7 +11,7 @@ use Rattle.registers.specs.declared.Flagged.{Flagged}
 use Rattle.registers.specs.declared.Outcome.{Outcome}
 use Rattle.registers.specs.Access.{CYC, wSR1, is_read, is_data, clear_word, Access}
 use Rattle.registers.specs.Machine.{Step, Handler, Act, access, next, handle, clear, since, polled_register, poll_error, poll_ready, after_poll}
-use Rattle.registers.specs.State.{State, at, then, resume, read, write}
+use Rattle.registers.specs.State.{State, at, then, resume, write}
 use Rattle.registers.specs.Contract.{outcome, outcome_of, handled, ReadsFrom, WritesFrom, Reaches, WaitsFrom}
 use Rattle.registers.proofs.Laws.{write_law, write_unfailed}
 use Rattle.registers.proofs.Steps.{here, rewritten, read_step, read_stops, waits_well, waits_last}

@@ -4,7 +4,6 @@ use Rattle.units.specs.declared.Setup.{Setup}
 use Rattle.i2c.specs.declared.Previous.{Previous}
 use Rattle.blocking.specs.Blocking.{close_after}
 use Rattle.registers.proofs.Steps.{here, ends_well, rewritten}
-use borrow.Author.Rules.{rules}
 use Rattle.blocking.proofs.close_after.Goals as goal
 
 -- after nothing or a read

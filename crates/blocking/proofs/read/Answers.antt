@@ -7,7 +7,6 @@ use Rattle.units.specs.declared.Setup.{Setup}
 use Rattle.blocking_write.specs.Write.{send_start_and_wait, send_addr_and_wait}
 use Rattle.blocking.specs.Blocking.{read_arm, read_steps}
 use Rattle.registers.proofs.Steps.{here, call_step, call_stops, call_last, ends_well, rewritten, keeps_fewer}
-use borrow.Author.Rules.{rules}
 use Rattle.blocking.proofs.read.Goals as goal
 
 -- something to read
@@ -26,11 +25,10 @@ returns-in_default c =
     c.in_default.not-Well
 
 pub read_arm-requires : goal.read_arm-requires
-read_arm-requires c =
-    (
-      keeps_fewer (c.send_start_and_addr-a.ensures []) c.in-Well.is c.requires,
-      omega (arith, c.if-count-eq0.false),
-    )
+read_arm-requires c = (
+  keeps_fewer (c.send_start_and_addr-a.ensures []) c.in-Well.is c.requires,
+  omega (arith, c.if-count-eq0.false),
+)
 
 pub returns : goal.returns
 returns c =

@@ -4,7 +4,6 @@ use mathlib.Core.Path.{◌≡◌, ap}
 use Rattle.units.specs.declared.Setup.{Setup}
 use Rattle.blocking.specs.Blocking.{read_more, read_arm}
 use Rattle.registers.proofs.Steps.{here, call_last, rewritten}
-use borrow.Author.Rules.{rules}
 use Rattle.blocking.proofs.read_arm.Goals as goal
 
 -- three bytes or more

@@ -1,6 +1,5 @@
 use mathlib.Core.List.{[]}
 use Rattle.registers.proofs.Steps.{here, call_step, call_stops, call_last, keeps_fewer}
-use borrow.Author.Rules.{rules}
 use Rattle.blocking.proofs.read_two.Goals as goal
 
 pub returns-in_default : goal.returns-in_default

@@ -2,13 +2,9 @@ use Prim.Native.Nat.{ℕ, zero, suc, ◌+◌, ◌-◌, ◌<◌, ◌≤◌}
 use native.Mathlib.Omega.{arith}
 use mathlib.Core.Path.{◌≡◌, refl, ap}
 use mathlib.Core.List.{[], ◌++◌}
-use lib.ListN.{length}
 use Rattle.units.specs.declared.Setup.{Setup}
-use Rattle.registers.specs.State.{at}
-use Rattle.registers.specs.Contract.{Reaches}
 use Rattle.blocking.specs.Blocking.{receive, receive_bytes}
 use Rattle.registers.proofs.Steps.{here, call_step, call_stops, ends_well, rewritten, keeps_fewer}
-use borrow.Author.Rules.{rules}
 use Rattle.blocking.proofs.receive_bytes.Goals as goal
 
 -- the next byte; none left; all of them
@@ -34,14 +30,13 @@ returns-in_default c =
     call_stops c.receive-o.ensures _ (rewritten (next-byte _ _ _ c.loop-i-test.true) c.loop-i.invariant.0) c.in_default.not-Well
 
 pub loop-i-preserved : goal.loop-i-preserved
-loop-i-preserved c =
-    (
-      call_step c.receive-o.ensures _ (rewritten (next-byte _ _ _ c.loop-i-test.true) c.loop-i.invariant.0)
-          c.in-Well.is,
-      omega arith,
-      omega arith,
-      keeps_fewer c.receive-o.ensures c.in-Well.is c.loop-i.invariant.3,
-    )
+loop-i-preserved c = (
+  call_step c.receive-o.ensures _ (rewritten (next-byte _ _ _ c.loop-i-test.true) c.loop-i.invariant.0)
+      c.in-Well.is,
+  omega arith,
+  omega arith,
+  keeps_fewer c.receive-o.ensures c.in-Well.is c.loop-i.invariant.3,
+)
 
 pub returns : goal.returns
 returns c = ends_well (rewritten (no_byte _ _ _ c.loop-i-test.false) c.loop-i.invariant.0)

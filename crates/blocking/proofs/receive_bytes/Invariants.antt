@@ -1,14 +1,9 @@
-use Prim.Native.Nat.{ℕ, zero, suc, ◌+◌, ◌-◌, ◌<◌, ◌≤◌}
-use native.Mathlib.Omega.{arith}
-use mathlib.Core.Path.{◌≡◌, refl, ap}
-use mathlib.Core.List.{[], ◌++◌}
+use Prim.Native.Nat.{◌-◌, ◌≤◌}
+use mathlib.Core.Path.{◌≡◌}
 use lib.ListN.{length}
-use Rattle.units.specs.declared.Setup.{Setup}
 use Rattle.registers.specs.State.{at}
 use Rattle.registers.specs.Contract.{Reaches}
-use Rattle.blocking.specs.Blocking.{receive, receive_bytes}
-use Rattle.registers.proofs.Steps.{here, call_step, call_stops, ends_well, rewritten, keeps_fewer}
-use borrow.Author.Rules.{rules}
+use Rattle.blocking.specs.Blocking.{receive_bytes}
 use Rattle.blocking.proofs.receive_bytes.Given as goal
 
 abbrev pub invariant-loop-i : goal.invariant-loop-i

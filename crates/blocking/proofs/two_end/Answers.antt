@@ -1,5 +1,4 @@
 use Rattle.registers.proofs.Steps.{here, call_step, call_stops, call_last, waits_end}
-use borrow.Author.Rules.{rules}
 use Rattle.blocking.proofs.two_end.Goals as goal
 
 pub returns-in_default : goal.returns-in_default

@@ -2,7 +2,6 @@ use mathlib.Core.Path.{refl}
 use mathlib.Core.List.{append-nil}
 use Rattle.registers.specs.Machine.{Handler}
 use Rattle.registers.proofs.Steps.{here, rewritten, call_step, call_stops, call_last, write_step, write_stops, wait_fails, wait_last}
-use borrow.Author.Rules.{rules}
 use Rattle.blocking_write.proofs.send_addr_and_wait.Goals as goal
 
 pub returns-in_default : goal.returns-in_default

@@ -2,7 +2,6 @@ use Prim.Native.Nat.{ℕ, zero, suc, ◌-◌, ◌<◌, ◌≤◌}
 use native.Mathlib.Omega.{arith}
 use mathlib.Core.Path.{◌≡◌, refl}
 use mathlib.Core.List.{List, [], ◌∷◌, ◌++◌, append-nil}
-use lib.ListN.{length}
 use Rattle.units.specs.declared.Setup.{Setup}
 use Rattle.registers.specs.declared.Awaited.{Awaited}
 use Rattle.registers.specs.declared.Progress.{Progress}
@@ -14,7 +13,6 @@ use Rattle.registers.specs.Machine.{Step, Handler, handle, reset, send_start, st
 use Rattle.registers.specs.State.{State, at}
 use Rattle.registers.specs.Contract.{Refines, Reaches, WaitsFrom}
 use Rattle.registers.proofs.Steps.{here, rewritten, call_step, call_stops, ends_well, ends_failed, wait_fails, wait_last}
-use borrow.Author.Rules.{rules}
 use Rattle.blocking_write.proofs.send_start_and_wait.Goals as goal
 
 -- the wait of a try, and a try with that many left
@@ -75,13 +73,12 @@ returns-then-retries_left-eq0 c rx =
     (c.busy_wait_flag-w.ensures _ _ rx) c.in-Failed.is) c.in-Well-b.is))
 
 pub loop-retries_left-preserved : goal.loop-retries_left-preserved
-loop-retries_left-preserved c =
-    (
-      (λ rx. rewritten (again_more _ _ _ c.if-retries_left-eq0.false) (call_step (c.reset-b.ensures rx) _
-          (try_fails (try_first _ _ c.loop-retries_left-test.true (c.loop-retries_left.invariant.0 rx)) (c.send_start-a.ensures _ rx) c.in-Well.is
-          (c.busy_wait_flag-w.ensures _ _ rx) c.in-Failed.is) c.in-Well-b.is)),
-      omega (arith, c.loop-retries_left.invariant.1),
-    )
+loop-retries_left-preserved c = (
+  (λ rx. rewritten (again_more _ _ _ c.if-retries_left-eq0.false) (call_step (c.reset-b.ensures rx) _
+      (try_fails (try_first _ _ c.loop-retries_left-test.true (c.loop-retries_left.invariant.0 rx)) (c.send_start-a.ensures _ rx) c.in-Well.is
+      (c.busy_wait_flag-w.ensures _ _ rx) c.in-Failed.is) c.in-Well-b.is)),
+  omega (arith, c.loop-retries_left.invariant.1),
+)
 
 pub returns : goal.returns
 returns c rx = ends_well (rewritten (start_none _ _ c.loop-retries_left-test.false) (c.loop-retries_left.invariant.0 rx))

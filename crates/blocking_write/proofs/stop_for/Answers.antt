@@ -6,7 +6,6 @@ use Rattle.registers.specs.declared.BusError.{BusError}
 use Rattle.registers.specs.Word.{none, one, STOP}
 use Rattle.registers.specs.Machine.{Step, Handler, handle, stop_for}
 use Rattle.registers.proofs.Steps.{here, rewritten, call_step, call_stops, ends_failed}
-use borrow.Author.Rules.{rules}
 use Rattle.blocking_write.proofs.stop_for.Goals as goal
 
 -- what the handler does with a NoAcknowledge, and with any other error

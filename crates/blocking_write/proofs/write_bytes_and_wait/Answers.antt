@@ -11,7 +11,6 @@ use Rattle.registers.specs.Machine.{Step}
 use Rattle.blocking_write.specs.Write.{read_status, write_wait, later_bytes, write_bytes_and_wait}
 use Rattle.blocking_write.proofs.Stops.{wait_stops, nothing_fails, get_unfailing, put_unfailing, settles}
 use Rattle.registers.proofs.Steps.{here, call_step, rewritten, wait_step, waits_last}
-use borrow.Author.Rules.{rules}
 use Rattle.blocking_write.proofs.write_bytes_and_wait.Goals as goal
 
 -- the first byte, and the part of the slice after it

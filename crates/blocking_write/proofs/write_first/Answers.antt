@@ -1,6 +1,5 @@
 use mathlib.Core.Path.{refl}
 use Rattle.registers.proofs.Steps.{here, call_step, call_stops, write_last}
-use borrow.Author.Rules.{rules}
 use Rattle.blocking_write.proofs.write_first.Goals as goal
 
 pub returns-in_default : goal.returns-in_default

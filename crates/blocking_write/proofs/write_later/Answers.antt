@@ -1,16 +1,10 @@
-use Prim.Native.Nat.{ℕ, ◌+◌, ◌-◌, ◌<◌, ◌≤◌}
+use Prim.Native.Nat.{◌+◌, ◌<◌, ◌≤◌}
 use native.Mathlib.Omega.{arith}
-use mathlib.Core.Path.{◌≡◌, refl}
-use mathlib.Core.List.{List}
-use lib.ListN.{length, drop}
-use Rattle.units.specs.declared.Setup.{Setup}
-use Rattle.registers.specs.State.{at}
-use Rattle.registers.specs.Contract.{Reaches}
-use Rattle.blocking_write.specs.Write.{later_bytes}
+use mathlib.Core.Path.{refl}
+use lib.ListN.{length}
 use Rattle.blocking_write.proofs.Stops.{wait_stops, nothing_fails, put_unfailing, settles}
 use Rattle.blocking_write.proofs.Bytes.{next-byte, no_byte, first_of, first_step}
 use Rattle.registers.proofs.Steps.{here, write_step, write_last, rewritten, wait_step, waits_well}
-use borrow.Author.Rules.{rules}
 use Rattle.blocking_write.proofs.write_later.Goals as goal
 
 pub loop-i-init : goal.loop-i-init
@@ -59,8 +53,7 @@ loop-i-smaller c =
 
 pub loop-i-preserved : goal.loop-i-preserved
 loop-i-preserved c =
-    let b : c.loop-i.i + c.write_ready-ready.result < length c.args.bytes.now = omega (arith, c.if-i-bytes.false, first_of c.args.bytes.now c.loop-i.i c.write_ready-ready.ensures, c.loop-i.invariant.2) in
-    (
+    let b : c.loop-i.i + c.write_ready-ready.result < length c.args.bytes.now = omega (arith, c.if-i-bytes.false, first_of c.args.bytes.now c.loop-i.i c.write_ready-ready.ensures, c.loop-i.invariant.2) in (
       (λ s rx e. write_step (wait_step (c.busy_wait_flag-w.ensures s _ rx) _
           (rewritten (next-byte s e _ _ b) (first_step _ _ c.write_ready-ready.ensures c.after_bytes-progress.ensures (c.loop-i.invariant.0 s rx e)))
           c.in-Well.is) (c.write-o.ensures _ rx) refl c.in-Well-o.is),

@@ -1,16 +1,11 @@
-use Prim.Native.Nat.{ℕ, ◌+◌, ◌-◌, ◌<◌, ◌≤◌}
-use native.Mathlib.Omega.{arith}
-use mathlib.Core.Path.{◌≡◌, refl}
+use Prim.Native.Nat.{ℕ, ◌-◌, ◌≤◌}
+use mathlib.Core.Path.{◌≡◌}
 use mathlib.Core.List.{List}
 use lib.ListN.{length, drop}
 use Rattle.units.specs.declared.Setup.{Setup}
 use Rattle.registers.specs.State.{at}
 use Rattle.registers.specs.Contract.{Reaches}
 use Rattle.blocking_write.specs.Write.{later_bytes}
-use Rattle.blocking_write.proofs.Stops.{wait_stops, nothing_fails, put_unfailing, settles}
-use Rattle.blocking_write.proofs.Bytes.{next-byte, no_byte, first_of, first_step}
-use Rattle.registers.proofs.Steps.{here, write_step, write_last, rewritten, wait_step, waits_well}
-use borrow.Author.Rules.{rules}
 use Rattle.blocking_write.proofs.write_later.Given as goal
 
 -- the loop knows only the limit, so its steps are those of any settings that have it

@@ -1,15 +1,7 @@
-use Prim.Native.Nat.{ℕ, ◌-◌, ◌≤◌}
 use native.Mathlib.Omega.{arith}
-use mathlib.Core.Path.{◌≡◌, refl, ap}
-use mathlib.Core.List.{List}
-use lib.ListN.{length, drop}
-use Rattle.units.specs.declared.Setup.{Setup}
+use mathlib.Core.Path.{refl, ap}
 use Rattle.registers.specs.declared.Progress.{Progress}
-use Rattle.registers.specs.State.{at, after_bytes}
-use Rattle.registers.specs.Contract.{Reaches}
-use Rattle.blocking_write.specs.Write.{later_bytes}
 use Rattle.blocking_write.proofs.Bytes.{byte_at_once, none_done, over_at_once}
-use borrow.Author.Rules.{rules}
 use Rattle.blocking_write.proofs.write_ready.Goals as goal
 
 pub loop-i-init : goal.loop-i-init
@@ -45,8 +37,7 @@ write_at_once-requires c =
 
 pub loop-i-preserved : goal.loop-i-preserved
 loop-i-preserved c =
-    let i = c.loop-i.invariant in
-    (
+    let i = c.loop-i.invariant in (
       (λ s rx. rw (c.write_at_once.ensures, c.after_bytes-next.ensures)
           (byte_at_once s _ c.args.readings.now _ rx c.args.progress c.loop-i.i (omega (arith, c.loop-i-test.true, c.bytes_that_fit-count.ensures.0)) (omega (arith, c.loop-i-test.true, c.bytes_that_fit-count.ensures.1)) (omega (arith, c.loop-i-test.true, c.bytes_that_fit-count.ensures.2, i.1))
           (over_at_once c.args.readings.now c.args.progress c.loop-i.i c.after_bytes-next.ensures c.first_sr1.ensures c.wait_for_flag.ensures

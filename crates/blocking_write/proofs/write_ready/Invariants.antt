@@ -1,15 +1,11 @@
 use Prim.Native.Nat.{ℕ, ◌-◌, ◌≤◌}
-use native.Mathlib.Omega.{arith}
-use mathlib.Core.Path.{◌≡◌, refl, ap}
+use mathlib.Core.Path.{◌≡◌}
 use mathlib.Core.List.{List}
 use lib.ListN.{length, drop}
 use Rattle.units.specs.declared.Setup.{Setup}
-use Rattle.registers.specs.declared.Progress.{Progress}
 use Rattle.registers.specs.State.{at, after_bytes}
 use Rattle.registers.specs.Contract.{Reaches}
 use Rattle.blocking_write.specs.Write.{later_bytes}
-use Rattle.blocking_write.proofs.Bytes.{byte_at_once, none_done, over_at_once}
-use borrow.Author.Rules.{rules}
 use Rattle.blocking_write.proofs.write_ready.Given as goal
 
 abbrev pub invariant-loop-i : goal.invariant-loop-i

@@ -8,7 +8,6 @@ use Rattle.units.specs.declared.Setup.{Setup}
 use Rattle.blocking_write.specs.Write.{send_start_and_wait, send_addr_and_wait, write_bytes_and_wait, write_without_stop}
 use Rattle.blocking_write.proofs.Stops.{wait_handled}
 use Rattle.registers.proofs.Steps.{here, call_step, call_stops, ends_well, rewritten, wait_last}
-use borrow.Author.Rules.{rules}
 use Rattle.blocking_write.proofs.write_without_stop.Goals as goal
 
 -- nothing to write; something

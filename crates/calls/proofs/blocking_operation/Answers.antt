@@ -1,6 +1,5 @@
 use Rattle.calls.proofs.CallLaws.{not_a_write}
 use Rattle.buslist.proofs.Accept.{operation_write}
-use borrow.Author.Rules.{rules}
 use Rattle.calls.proofs.blocking_operation.Goals as goal
 
 pub returns-then-o-eq0 : goal.returns-then-o-eq0

@@ -2,7 +2,6 @@ use Rattle.registers.proofs.Steps.{here, ends_well}
 use Rattle.calls.specs.Whole.{end_steps}
 use Rattle.calls.proofs.CallLaws.{polling_call, blocking_call}
 use mathlib.Core.Path.{sym, ◌∙◌}
-use borrow.Author.Rules.{rules}
 use Rattle.calls.proofs.end_call.Goals as goal
 
 pub returns-then-is_polling : goal.returns-then-is_polling

@@ -9,7 +9,6 @@ use mathlib.Core.List.{[], ◌∷◌}
 use Prim.Native.Nat.{ℕ, zero, suc}
 use native.Mathlib.Omega.{arith}
 use mathlib.Core.Path.{◌≡◌, refl, sym, ◌∙◌}
-use borrow.Author.Rules.{rules}
 use Rattle.calls.proofs.moved.Goals as goal
 
 passed_over : (p : Previous) (o : Operation) → empty o ≡ true → done_last p o ≡ p

@@ -1,7 +1,6 @@
 use Rattle.calls.specs.Whole.{operation_steps}
 use Rattle.calls.proofs.CallLaws.{polling_call, blocking_call, number_of_address}
 use mathlib.Core.Path.{sym, ◌∙◌}
-use borrow.Author.Rules.{rules}
 use Rattle.calls.proofs.operation.Goals as goal
 
 pub returns-then-is_polling : goal.returns-then-is_polling

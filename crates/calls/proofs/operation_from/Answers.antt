@@ -1,5 +1,4 @@
 use Rattle.calls.proofs.CallLaws.{takes_listed, takes_joined}
-use borrow.Author.Rules.{rules}
 use Rattle.calls.proofs.operation_from.Goals as goal
 
 pub returns-then-call-eq7 : goal.returns-then-call-eq7

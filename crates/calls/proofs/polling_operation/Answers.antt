@@ -5,7 +5,6 @@ use mathlib.Core.Path.{◌≡◌, refl, sym, ap, ◌∙◌}
 use mathlib.Core.List.{List, [], ◌∷◌, ◌++◌}
 use lib.Dec.{eqb}
 use borrow.Author.Tests.{eqb-true, not-true, not-false, eq-eqb, ne_eqb}
-use borrow.Author.Rules.{rules}
 use Rattle.buslist.specs.declared.Address.{Address}
 use Rattle.buslist.specs.declared.OperationEntry.{OperationEntry}
 use Rattle.buslist.specs.Meaning.{write, read, bytes_of, operation_of}

@@ -1,21 +1,12 @@
 -- The labelled loops: after k calls the calls from k on are left, and within a call its operations from j on.
-use Prim.Native.Nat.{◌-◌, ◌≤◌, ◌<◌}
+use Prim.Native.Nat.{◌<◌}
 use native.Mathlib.Omega.{arith}
-use mathlib.Core.Path.{◌≡◌, refl, ◌∙◌}
-use mathlib.Core.List.{[], map}
-use lib.ListN.{length}
-use borrow.Author.Rules.{rules}
+use mathlib.Core.Path.{refl, ◌∙◌}
+use mathlib.Core.List.{[]}
 use Rattle.buslist.specs.Table.{call_count}
-use Rattle.buslist.specs.Meaning.{calls_of}
-use Rattle.buslist.specs.Next.{operations_from}
 use Rattle.buslist.proofs.Accept.{call_within}
-use Rattle.registers.specs.declared.Outcome.{Outcome}
-use Rattle.registers.specs.State.{at}
-use Rattle.registers.specs.Contract.{Reaches}
 use Rattle.registers.proofs.Steps.{here, rewritten, call_step, call_stops, call_last, keeps_fewer}
-use Rattle.calls.specs.Calls.{steps_of}
-use Rattle.calls.specs.Whole.{rest_steps, Left}
-use Rattle.calls.proofs.CallLaws.{calls-start, call_stops_run, next_call, calls_end, operations-done, calls_from, calls_all, calls-next, calls_none, left_rewritten}
+use Rattle.calls.proofs.CallLaws.{calls-start, call_stops_run, next_call, calls_end, operations-done, calls_all, calls-next, calls_none, left_rewritten}
 use Rattle.calls.proofs.run_calls.Goals as goal
 
 pub calls-init : goal.calls-init
@@ -42,15 +33,14 @@ loop-j-smaller c =
     omega (arith, c.operation_from-joined.ensures.some, c.operation_from-joined.ensures.most)
 
 pub loop-j-preserved : goal.loop-j-preserved
-loop-j-preserved c =
-    (
-      call_step c.operation-outcome.ensures _
-          (rewritten (c.operation_from-joined.ensures.first _ _ ∙ rw c.moved-previous.ensures) c.loop-j.invariant.0)
-          c.in-Well.is,
-      omega arith,
-      omega arith,
-      keeps_fewer c.operation-outcome.ensures c.in-Well.is c.loop-j.invariant.3,
-    )
+loop-j-preserved c = (
+  call_step c.operation-outcome.ensures _
+      (rewritten (c.operation_from-joined.ensures.first _ _ ∙ rw c.moved-previous.ensures) c.loop-j.invariant.0)
+      c.in-Well.is,
+  omega arith,
+  omega arith,
+  keeps_fewer c.operation-outcome.ensures c.in-Well.is c.loop-j.invariant.3,
+)
 
 pub calls-preserved : goal.calls-preserved
 calls-preserved c =

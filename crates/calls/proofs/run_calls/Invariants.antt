@@ -1,21 +1,16 @@
 -- The labelled loops: after k calls the calls from k on are left, and within a call its operations from j on.
-use Prim.Native.Nat.{◌-◌, ◌≤◌, ◌<◌}
-use native.Mathlib.Omega.{arith}
-use mathlib.Core.Path.{◌≡◌, refl, ◌∙◌}
-use mathlib.Core.List.{[], map}
+use Prim.Native.Nat.{◌-◌, ◌≤◌}
+use mathlib.Core.Path.{◌≡◌}
+use mathlib.Core.List.{map}
 use lib.ListN.{length}
-use borrow.Author.Rules.{rules}
-use Rattle.buslist.specs.Table.{call_count}
 use Rattle.buslist.specs.Meaning.{calls_of}
 use Rattle.buslist.specs.Next.{operations_from}
-use Rattle.buslist.proofs.Accept.{call_within}
 use Rattle.registers.specs.declared.Outcome.{Outcome}
 use Rattle.registers.specs.State.{at}
 use Rattle.registers.specs.Contract.{Reaches}
-use Rattle.registers.proofs.Steps.{here, rewritten, call_step, call_stops, call_last, keeps_fewer}
 use Rattle.calls.specs.Calls.{steps_of}
 use Rattle.calls.specs.Whole.{rest_steps, Left}
-use Rattle.calls.proofs.CallLaws.{calls-start, call_stops_run, next_call, calls_end, operations-done, calls_from, calls_all, calls-next, calls_none, left_rewritten}
+use Rattle.calls.proofs.CallLaws.{calls_from}
 use Rattle.calls.proofs.run_calls.Given as goal
 
 abbrev pub invariant-loop-j : goal.invariant-loop-j

@@ -1,5 +1,4 @@
 use mathlib.Core.Path.{refl, sym, ◌∙◌}
-use borrow.Author.Rules.{rules}
 use Rattle.checks.proofs.Flags.{nothing_found, berr_found}
 use Rattle.checks.proofs.Checks.{check_none, check_fine, check_error, check_spurious}
 use Rattle.checks.proofs.check_and_clear_error_flags.Goals as goal

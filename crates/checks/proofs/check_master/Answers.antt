@@ -1,11 +1,8 @@
 use native.Mathlib.Omega.{arith}
 use mathlib.Core.Path.{refl, sym, ◌∙◌}
 use mathlib.Core.List.{[]}
-use borrow.Author.Rules.{rules}
-use Rattle.registers.specs.Machine.{Step, next}
-use Rattle.registers.specs.State.{at, room}
+use Rattle.registers.specs.Machine.{next}
 use Rattle.registers.proofs.Steps.{here, read_step, read_stops, read_less, ends_well}
-use Rattle.checks.proofs.Waits.{Waiting}
 use Rattle.checks.proofs.Checks.{check_master_checks, check_step, check_stops, check_less, cond_true, cond_false}
 use Rattle.checks.proofs.check_master.Goals as goal
 
@@ -47,10 +44,9 @@ loop-next-smaller c =
 
 pub loop-next-preserved : goal.loop-next-preserved
 unfolding next
-loop-next-preserved c =
-    (
-      (λ s rx. read_step (check_step (c.loop-next.invariant.0 s rx) (c.check_and_clear_error_flags-c.ensures rx) check_master_checks
-          c.in-Word.is refl) (c.read-t.ensures rx) refl refl refl c.in-Word-t.is
-          (cond_false [] _ (sym c.has.ensures ∙ c.if-has.false) ∙ cond_false [] _ (sym c.has-in-loop-next.ensures ∙ c.if-has-2.false))),
-      omega arith,
-    )
+loop-next-preserved c = (
+  (λ s rx. read_step (check_step (c.loop-next.invariant.0 s rx) (c.check_and_clear_error_flags-c.ensures rx) check_master_checks
+      c.in-Word.is refl) (c.read-t.ensures rx) refl refl refl c.in-Word-t.is
+      (cond_false [] _ (sym c.has.ensures ∙ c.if-has.false) ∙ cond_false [] _ (sym c.has-in-loop-next.ensures ∙ c.if-has-2.false))),
+  omega arith,
+)

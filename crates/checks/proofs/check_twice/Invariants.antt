@@ -1,12 +1,7 @@
-use native.Mathlib.Omega.{arith}
-use mathlib.Core.Path.{refl, sym, ◌∙◌}
 use mathlib.Core.List.{[]}
-use borrow.Author.Rules.{rules}
-use Rattle.registers.specs.Machine.{Step, next}
+use Rattle.registers.specs.Machine.{Step}
 use Rattle.registers.specs.State.{at, room}
-use Rattle.registers.proofs.Steps.{here, read_step, read_stops, read_less, ends_well}
 use Rattle.checks.proofs.Waits.{Waiting}
-use Rattle.checks.proofs.Checks.{check_twice_checks, check_step, check_stops, check_less, cond_true, cond_false}
 use Rattle.checks.proofs.check_twice.Given as goal
 
 abbrev pub invariant-loop-next : goal.invariant-loop-next

@@ -1,11 +1,7 @@
 use native.Mathlib.Omega.{arith}
 use mathlib.Core.Path.{refl, sym, ◌∙◌}
 use mathlib.Core.List.{[]}
-use borrow.Author.Rules.{rules}
-use Rattle.registers.specs.Machine.{Step}
-use Rattle.registers.specs.State.{at, room}
 use Rattle.registers.proofs.Steps.{here, ends_well}
-use Rattle.checks.proofs.Waits.{Waiting}
 use Rattle.checks.proofs.Checks.{check_checks, check_step, check_stops, check_less, cond_true, cond_false}
 use Rattle.checks.proofs.check_until.Goals as goal
 
@@ -27,9 +23,8 @@ loop-sr1-smaller c =
     check_less (c.check_and_clear_error_flags-c.ensures []) c.in-Word.is
 
 pub loop-sr1-preserved : goal.loop-sr1-preserved
-loop-sr1-preserved c =
-    (
-      (λ s rx. check_step (c.loop-sr1.invariant.0 s rx) (c.check_and_clear_error_flags-c.ensures rx) check_checks c.in-Word.is
-          (cond_false [] _ (sym c.has.ensures ∙ c.if-has.false))),
-      omega arith,
-    )
+loop-sr1-preserved c = (
+  (λ s rx. check_step (c.loop-sr1.invariant.0 s rx) (c.check_and_clear_error_flags-c.ensures rx) check_checks c.in-Word.is
+      (cond_false [] _ (sym c.has.ensures ∙ c.if-has.false))),
+  omega arith,
+)

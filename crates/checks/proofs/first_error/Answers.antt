@@ -1,8 +1,5 @@
-use mathlib.Core.Bool.{false}
-use mathlib.Core.Path.{◌≡◌, sym, ◌∙◌}
-use Rattle.registers.specs.Word.{has, AF, OVR, PECERR, TIMEOUT}
+use mathlib.Core.Path.{sym, ◌∙◌}
 use Rattle.registers.specs.Machine.{check_word}
-use borrow.Author.Rules.{rules}
 use Rattle.checks.proofs.first_error.Goals as goal
 
 pub returns-then-has : goal.returns-then-has

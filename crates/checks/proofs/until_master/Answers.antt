@@ -1,11 +1,8 @@
 use native.Mathlib.Omega.{arith}
 use mathlib.Core.Path.{refl, sym, ◌∙◌}
 use mathlib.Core.List.{[]}
-use Rattle.registers.specs.Machine.{Step}
-use Rattle.registers.specs.State.{at, room}
 use Rattle.registers.proofs.Steps.{here, read_step, read_stops, ends_well, read_less}
-use Rattle.checks.proofs.Waits.{Waiting, next_master}
-use borrow.Author.Rules.{rules}
+use Rattle.checks.proofs.Waits.{next_master}
 use Rattle.checks.proofs.until_master.Goals as goal
 
 pub loop-sr2-init : goal.loop-sr2-init
@@ -29,9 +26,8 @@ pub loop-sr2-smaller : goal.loop-sr2-smaller
 loop-sr2-smaller c = read_less (c.read-t.ensures []) c.in-Word.is
 
 pub loop-sr2-preserved : goal.loop-sr2-preserved
-loop-sr2-preserved c =
-    (
-      (λ s rx. read_step (c.loop-sr2.invariant.0 s rx) (c.read-t.ensures rx) refl refl refl c.in-Word.is
-          (next_master s _ (sym c.has.ensures ∙ c.if-has.false) (sym c.has-in-loop-sr2.ensures ∙ c.if-has-2.false))),
-      omega arith,
-    )
+loop-sr2-preserved c = (
+  (λ s rx. read_step (c.loop-sr2.invariant.0 s rx) (c.read-t.ensures rx) refl refl refl c.in-Word.is
+      (next_master s _ (sym c.has.ensures ∙ c.if-has.false) (sym c.has-in-loop-sr2.ensures ∙ c.if-has-2.false))),
+  omega arith,
+)

@@ -1,11 +1,7 @@
-use native.Mathlib.Omega.{arith}
-use mathlib.Core.Path.{refl, sym, ◌∙◌}
 use mathlib.Core.List.{[]}
 use Rattle.registers.specs.Machine.{Step}
 use Rattle.registers.specs.State.{at, room}
-use Rattle.registers.proofs.Steps.{here, read_step, read_stops, ends_well, read_less}
-use Rattle.checks.proofs.Waits.{Waiting, next-stop_clear}
-use borrow.Author.Rules.{rules}
+use Rattle.checks.proofs.Waits.{Waiting}
 use Rattle.checks.proofs.until_stop_clear.Given as goal
 
 abbrev pub invariant-loop-cr1 : goal.invariant-loop-cr1

@@ -1,6 +1,5 @@
 use Rattle.engine.proofs.Result.{refused_meant}
 use mathlib.Core.Path.{sym, ◌∙◌}
-use borrow.Author.Rules.{rules}
 use Rattle.engine.proofs.run.Goals as goal
 
 pub returns-then-refused-ne0 : goal.returns-then-refused-ne0

@@ -6,7 +6,6 @@ use Rattle.units.specs.Setup.{setup_of}
 use mathlib.Core.List.{[]}
 use native.Mathlib.Omega.{arith}
 use mathlib.Core.Path.{ap, ◌∙◌}
-use borrow.Author.Rules.{rules}
 use Rattle.engine.proofs.run_accepted.Goals as goal
 
 pub setup_of-setup-requires : goal.setup_of-setup-requires

@@ -1,6 +1,5 @@
 use mathlib.Core.Path.{refl}
 use Rattle.registers.proofs.Steps.{here, write_step, write_stops, call_last}
-use borrow.Author.Rules.{rules}
 use Rattle.i2c.proofs.reset.Goals as goal
 
 pub returns-in_default : goal.returns-in_default

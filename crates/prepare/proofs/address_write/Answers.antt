@@ -1,5 +1,4 @@
 use mathlib.Core.Path.{refl}
-use borrow.Author.Rules.{rules}
 use Rattle.registers.proofs.Steps.{here, write_step, write_stops, call_step, call_stops, call_last}
 use Rattle.prepare.proofs.address_write.Goals as goal
 

@@ -1,4 +1,3 @@
-use borrow.Author.Rules.{rules}
 use Rattle.prepare.proofs.request_read.Goals as goal
 
 pub returns-then-again : goal.returns-then-again

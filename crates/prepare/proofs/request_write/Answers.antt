@@ -1,4 +1,3 @@
-use borrow.Author.Rules.{rules}
 use Rattle.registers.proofs.Steps.{here, call_step, call_stops, call_last}
 use Rattle.prepare.proofs.request_write.Goals as goal
 

@@ -1,5 +1,4 @@
 use mathlib.Core.Path.{refl, ap}
-use borrow.Author.Rules.{rules}
 use Rattle.registers.proofs.Steps.{here, rewritten, call_step, call_stops, ends_well, write_last}
 use Rattle.i2c.specs.Polling.{send_low_byte}
 use Rattle.prepare.proofs.send_low_byte.Goals as goal
@@ -13,17 +12,4 @@ returns-in_default-a c s rx =
 
 pub returns : goal.returns
 returns c s rx =
-    write_last
-    (call_step (c.check_until-a.ensures s rx) _ (rewritten (ap send_low_byte c.in-Ten.is) here) c.in-Well.is)
-    (c.write.ensures _ rx)
-    refl
-
--- these three are named, so that the edit low_byte_first can put them in the order of its program
-pub check_until-a-requires : goal.check_until-a-requires
-check_until-a-requires c = search rules
-
-pub overflow_cast-address : goal.overflow_cast-address
-overflow_cast-address c = search rules
-
-pub write-requires : goal.write-requires
-write-requires c = search rules
+    write_last (call_step (c.check_until-a.ensures s rx) _ (rewritten (ap send_low_byte c.in-Ten.is) here) c.in-Well.is) (c.write.ensures _ rx) refl

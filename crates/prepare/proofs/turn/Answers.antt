@@ -1,7 +1,6 @@
 use mathlib.Core.Bool.{Bool, true, false, cond}
 use mathlib.Core.Path.{◌≡◌, refl}
 use mathlib.Core.List.{[], ◌++◌}
-use borrow.Author.Rules.{rules}
 use Rattle.buslist.specs.declared.Address.{Address}
 use Rattle.registers.proofs.Steps.{here, rewritten, call_step, call_stops, call_last}
 use Rattle.i2c.specs.declared.Previous.{Previous}

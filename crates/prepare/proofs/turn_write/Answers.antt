@@ -1,5 +1,3 @@
-use borrow.Author.Tests.{not-true, not-false}
-use borrow.Author.Rules.{rules}
 use Rattle.registers.proofs.Steps.{here, ends_well}
 use Rattle.prepare.proofs.turn_write.Goals as goal
 

@@ -1,2 +1,0 @@
-use borrow.Author.Rules.{rules}
-use Rattle.registers.proofs.altered.Goals as goal

@@ -1,4 +1,3 @@
-use borrow.Author.Rules.{rules}
 use Rattle.registers.proofs.clear_flag.Goals as goal
 
 pub returns : goal.returns

@@ -1,5 +1,4 @@
 use Rattle.registers.specs.Access.{number}
-use borrow.Author.Rules.{rules}
 use Rattle.registers.proofs.error_number.Goals as goal
 
 pub returns-in-Overrun : goal.returns-in-Overrun

@@ -1,7 +1,6 @@
 use mathlib.Core.Path.{refl}
 use Rattle.registers.specs.Machine.{next}
 use Rattle.registers.proofs.Steps.{here, read_last}
-use borrow.Author.Rules.{rules}
 use Rattle.registers.proofs.get.Goals as goal
 
 pub returns : goal.returns

@@ -7,7 +7,6 @@ use Rattle.registers.specs.Access.{wCR1}
 use Rattle.registers.specs.Word.{with_bits, without_bits}
 use Rattle.registers.specs.Machine.{Step, next}
 use Rattle.registers.proofs.Steps.{here, read_step, read_stops, read_small, write_last}
-use borrow.Author.Rules.{rules}
 use Rattle.registers.proofs.modify_cr1.Goals as goal
 
 altered_is : (s : Setup) (on off : Bits) (v w : ℕ) → w ≡ without_bits off (with_bits on v) → next s (Step.modify on off) v ≡ Step.put wCR1 w ∷ []

@@ -1,5 +1,4 @@
 use Rattle.registers.specs.Access.{number}
-use borrow.Author.Rules.{rules}
 use Rattle.registers.proofs.number.Goals as goal
 
 pub returns-in-Well : goal.returns-in-Well

@@ -2,7 +2,6 @@ use mathlib.Core.Path.{refl}
 use native.Mathlib.Omega.{arith}
 use lib.ListN.{length-set}
 use Rattle.registers.specs.Access.{store}
-use borrow.Author.Rules.{rules}
 use Rattle.registers.proofs.put_entry.Goals as goal
 
 pub bounds-log-k-2 : goal.bounds-log-k-2

@@ -1,9 +1,7 @@
 use native.Mathlib.Omega.{arith}
 use mathlib.Core.Path.{sym, ◌∙◌}
-use mathlib.Core.Logic.{⊎_elim}
 use borrow.Author.Tests.{leb-true, leb-false}
 use Rattle.registers.proofs.Laws.{read-full, read_empty, read_done, cut_register, cut_cycles}
-use borrow.Author.Rules.{rules}
 use Rattle.registers.proofs.read.Goals as goal
 use Rattle.registers.proofs.read.Goals.{else-code-ne-CYC, then-code-ne-CYC}
 

@@ -1,12 +1,9 @@
 use lib.Seq.{set_out}
 use Rattle.registers.specs.State.{received}
 use native.Mathlib.Omega.{arith}
-use mathlib.Core.Path.{refl, ap, ◌∙◌}
+use mathlib.Core.Path.{refl}
 use mathlib.Core.List.{[]}
-use lib.ListN.{length, length-set}
-use mathlib.Core.Logic.{⊎_elim}
 use Rattle.registers.proofs.Steps.{here, read_stops, read-counts, data_step}
-use borrow.Author.Rules.{rules}
 use Rattle.registers.proofs.read_data.Goals as goal
 use Rattle.registers.proofs.read_data.Goals.{else-got-rx, then-got-rx}
 

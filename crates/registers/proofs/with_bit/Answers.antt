@@ -1,7 +1,6 @@
 use native.Mathlib.Omega.{arith}
 use mathlib.Core.Path.{sym, ◌∙◌}
 use Rattle.registers.proofs.BitLaws.{with_none, with_on, with_off}
-use borrow.Author.Rules.{rules}
 use Rattle.registers.proofs.with_bit.Goals as goal
 
 pub returns-then-weight-eq0 : goal.returns-then-weight-eq0

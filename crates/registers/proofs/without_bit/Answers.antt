@@ -1,7 +1,6 @@
 use native.Mathlib.Omega.{arith}
 use mathlib.Core.Path.{sym, ◌∙◌}
 use Rattle.registers.proofs.BitLaws.{without_none, without_on, without_off, on_le}
-use borrow.Author.Rules.{rules}
 use Rattle.registers.proofs.without_bit.Goals as goal
 
 pub returns-then-weight-eq0 : goal.returns-then-weight-eq0

@@ -2,7 +2,6 @@ use native.Mathlib.Omega.{arith}
 use mathlib.Core.Path.{sym, ◌∙◌}
 use borrow.Author.Tests.{leb-true, leb-false}
 use Rattle.registers.proofs.Laws.{write-full, write_done}
-use borrow.Author.Rules.{rules}
 use Rattle.registers.proofs.write.Goals as goal
 
 pub returns-then-full : goal.returns-then-full

@@ -6,7 +6,6 @@ use Rattle.registers.specs.declared.Progress.{Progress}
 use Rattle.registers.specs.Access.{SR1, CYC, wDR, cut, store}
 use Rattle.registers.specs.State.{entry, store_byte}
 use Rattle.registers.proofs.Laws.{cut_cycles}
-use borrow.Author.Rules.{rules}
 use Rattle.registers.proofs.write_at_once.Goals as goal
 
 stored : (rs lg : List ℕ) (b : Progress) (byte : ℕ) {v w : ℕ} {lg₁ lg₂ lg₃ : List ℕ} → v ≡ cut CYC (get_or rs b.used 0) → w ≡ cut SR1 (get_or rs (b.used + 1) 0)

@@ -1,8 +1,4 @@
-use Rattle.std.proofs.Common.{◌≡◌, ℕ, List, [], ◌∷◌, length, sym, refl, ◌∙◌, arith, rules}
-use Rattle.units.specs.declared.Setup.{Setup}
-use Rattle.registers.specs.Machine.{Step, Handler, next}
-use Rattle.registers.specs.State.{at, room}
-use Rattle.registers.specs.Contract.{Reaches}
+use Rattle.std.proofs.Common.{[], sym, refl, ◌∙◌, arith}
 use Rattle.registers.proofs.Steps.{here, rewritten, read_step, read_less, waits_well}
 use Rattle.timed.proofs.Waiting.{next-over, next_waits, next_late, polled_read, poll_step, wait_none, wait_failed, ends_handled}
 use Rattle.timed.proofs.busy_wait.Goals as goal
@@ -46,14 +42,13 @@ loop-awaited-smaller c =
     omega arith
 
 pub loop-awaited-preserved : goal.loop-awaited-preserved
-loop-awaited-preserved c =
-    (
-      (λ s h rx.
-          let late = rewritten (next_waits s _ _ h _ _ (sym c.wait_over.ensures ∙ c.loop-awaited-test.true) (sym c.poll_error-flagged.ensures ∙ c.in_default.is)) (c.loop-awaited.invariant.0 s h rx) in
-          let poll = read_step late (c.read-c.ensures rx) refl refl refl c.in-Word.is (next_late s _ _ h _ _ (sym c.timed_out.ensures ∙ c.if-timed_out.false)) in
-          poll_step poll (rw c.polled_register.ensures at (c.read-d.ensures rx)) c.in-Word-d.is),
-      omega arith,
-    )
+loop-awaited-preserved c = (
+  (λ s h rx.
+      let late = rewritten (next_waits s _ _ h _ _ (sym c.wait_over.ensures ∙ c.loop-awaited-test.true) (sym c.poll_error-flagged.ensures ∙ c.in_default.is)) (c.loop-awaited.invariant.0 s h rx) in
+      let poll = read_step late (c.read-c.ensures rx) refl refl refl c.in-Word.is (next_late s _ _ h _ _ (sym c.timed_out.ensures ∙ c.if-timed_out.false)) in
+      poll_step poll (rw c.polled_register.ensures at (c.read-d.ensures rx)) c.in-Word-d.is),
+  omega arith,
+)
 
 pub returns : goal.returns
 returns c s h rx = waits_well (rewritten (next-over s _ _ h _ _ (sym c.wait_over.ensures ∙ c.loop-awaited-test.false)) (c.loop-awaited.invariant.0 s h rx))

@@ -1,11 +1,8 @@
-use Rattle.std.proofs.Common.{◌≡◌, ℕ, List, [], ◌∷◌, length, sym, refl, ◌∙◌, arith, rules}
-use borrow.Author.Tests.{not-true, not-false}
+use Rattle.std.proofs.Common.{◌≡◌, ℕ, List, [], length}
 use Rattle.units.specs.declared.Setup.{Setup}
 use Rattle.registers.specs.Machine.{Step, Handler, next}
 use Rattle.registers.specs.State.{at, room}
 use Rattle.registers.specs.Contract.{Reaches}
-use Rattle.registers.proofs.Steps.{here, rewritten, read_step, read_less, waits_well}
-use Rattle.timed.proofs.Waiting.{next-over, next_waits, next_late, polled_read, poll_step, wait_none, wait_failed, ends_handled}
 use Rattle.timed.proofs.busy_wait.Given as goal
 
 -- the loop comes back to what a poll makes of the word that it read

@@ -1,4 +1,4 @@
-use Rattle.std.proofs.Common.{sym, refl, ◌∙◌, rules}
+use Rattle.std.proofs.Common.{sym, refl, ◌∙◌}
 use Rattle.registers.proofs.Steps.{here}
 use Rattle.timed.proofs.Waiting.{wait_none, wait_unread, wait_at_once, wait_longer}
 use Rattle.timed.proofs.busy_wait_flag.Goals as goal

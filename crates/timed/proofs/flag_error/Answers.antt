@@ -1,5 +1,4 @@
-use Rattle.std.proofs.Common.{◌≡◌, false, sym, ◌∙◌, rules}
-use Rattle.registers.specs.Word.{has, BERR, ARLO, AF}
+use Rattle.std.proofs.Common.{sym, ◌∙◌}
 use Rattle.registers.specs.Machine.{poll_word}
 use Rattle.timed.proofs.flag_error.Goals as goal
 

@@ -1,4 +1,3 @@
-use Rattle.std.proofs.Common.{rules}
 use Rattle.registers.specs.Machine.{poll_error}
 use Rattle.timed.proofs.poll_error.Goals as goal
 

@@ -1,5 +1,4 @@
-use Rattle.std.proofs.Common.{not, ap, rules}
-use Rattle.registers.specs.Word.{has}
+use Rattle.std.proofs.Common.{not, ap}
 use Rattle.registers.specs.Machine.{poll_error, poll_ready}
 use Rattle.timed.specs.Poll.{over}
 use Rattle.timed.proofs.wait_for_stop.Goals as goal

@@ -1,4 +1,3 @@
-use Rattle.std.proofs.Common.{rules}
 use Rattle.timed.proofs.wait_over.Goals as goal
 
 pub wait_for_flag-requires : goal.wait_for_flag-requires

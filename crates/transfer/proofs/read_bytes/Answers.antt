@@ -2,11 +2,6 @@ use Prim.Native.Nat.{ℕ, zero, suc, ◌+◌, ◌-◌, ◌<◌, ◌≤◌}
 use native.Mathlib.Omega.{arith}
 use mathlib.Core.Path.{◌≡◌, refl, ap}
 use mathlib.Core.List.{[], ◌++◌}
-use lib.ListN.{length}
-use borrow.Author.Rules.{rules}
-use Rattle.units.specs.declared.Setup.{Setup}
-use Rattle.registers.specs.State.{at}
-use Rattle.registers.specs.Contract.{Reaches}
 use Rattle.registers.proofs.Steps.{here, rewritten, call_step, call_stops, ends_well, no_setup, keeps_fewer}
 use Rattle.i2c.specs.Polling.{recv_byte, read_bytes}
 use Rattle.transfer.proofs.read_bytes.Goals as goal
@@ -34,13 +29,12 @@ returns-in_default c s =
     call_stops (c.recv_byte-o.ensures s) _ (rewritten (next-byte _ _ c.loop-i-test.true) (c.loop-i.invariant.0 s)) c.in_default.not-Well
 
 pub loop-i-preserved : goal.loop-i-preserved
-loop-i-preserved c =
-    (
-      (λ s. call_step (c.recv_byte-o.ensures s) _ (rewritten (next-byte _ _ c.loop-i-test.true) (c.loop-i.invariant.0 s)) c.in-Well.is),
-      omega arith,
-      omega arith,
-      keeps_fewer (c.recv_byte-o.ensures no_setup) c.in-Well.is c.loop-i.invariant.3,
-    )
+loop-i-preserved c = (
+  (λ s. call_step (c.recv_byte-o.ensures s) _ (rewritten (next-byte _ _ c.loop-i-test.true) (c.loop-i.invariant.0 s)) c.in-Well.is),
+  omega arith,
+  omega arith,
+  keeps_fewer (c.recv_byte-o.ensures no_setup) c.in-Well.is c.loop-i.invariant.3,
+)
 
 pub returns : goal.returns
 returns c s = ends_well (rewritten (no_byte _ _ c.loop-i-test.false) (c.loop-i.invariant.0 s))

@@ -1,14 +1,10 @@
-use Prim.Native.Nat.{ℕ, zero, suc, ◌+◌, ◌-◌, ◌<◌, ◌≤◌}
-use native.Mathlib.Omega.{arith}
-use mathlib.Core.Path.{◌≡◌, refl, ap}
-use mathlib.Core.List.{[], ◌++◌}
+use Prim.Native.Nat.{◌-◌, ◌≤◌}
+use mathlib.Core.Path.{◌≡◌}
 use lib.ListN.{length}
-use borrow.Author.Rules.{rules}
 use Rattle.units.specs.declared.Setup.{Setup}
 use Rattle.registers.specs.State.{at}
 use Rattle.registers.specs.Contract.{Reaches}
-use Rattle.registers.proofs.Steps.{here, rewritten, call_step, call_stops, ends_well, no_setup, keeps_fewer}
-use Rattle.i2c.specs.Polling.{recv_byte, read_bytes}
+use Rattle.i2c.specs.Polling.{read_bytes}
 use Rattle.transfer.proofs.read_bytes.Given as goal
 
 abbrev pub invariant-loop-i : goal.invariant-loop-i

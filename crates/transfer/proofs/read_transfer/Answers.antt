@@ -1,4 +1,3 @@
-use borrow.Author.Rules.{rules}
 use Rattle.i2c.specs.Polling.{transfer}
 use Rattle.transfer.proofs.read_transfer.Goals as goal
 

@@ -2,7 +2,6 @@ use Prim.Native.Nat.{ℕ, zero, suc, ◌-◌}
 use native.Mathlib.Omega.{arith}
 use mathlib.Core.Path.{◌≡◌, refl}
 use mathlib.Core.List.{[], ◌∷◌, ◌++◌}
-use borrow.Author.Rules.{rules}
 use Rattle.registers.specs.declared.BusError.{BusError}
 use Rattle.registers.specs.Word.{one, STOP, ACK}
 use Rattle.registers.specs.Machine.{Step}

@@ -1,5 +1,4 @@
 use mathlib.Core.List.{[]}
-use borrow.Author.Rules.{rules}
 use Rattle.registers.proofs.Steps.{here, call_step, call_stops, call_last, no_setup, keeps_fewer}
 use Rattle.transfer.proofs.recv_byte.Goals as goal
 

@@ -1,14 +1,10 @@
-use Prim.Native.Nat.{ℕ, ◌+◌, ◌-◌, ◌<◌, ◌≤◌}
+use Prim.Native.Nat.{ℕ, ◌+◌, ◌<◌, ◌≤◌}
 use native.Mathlib.Omega.{arith}
 use native.Mathlib.Numerals.{add-one}
 use mathlib.Core.Path.{◌≡◌, refl}
 use mathlib.Core.List.{List, [], ◌++◌}
 use lib.ListN.{length, drop, get_or, drop_of_length-le}
 use lib.Seq.{drop-cons}
-use borrow.Author.Rules.{rules}
-use Rattle.units.specs.declared.Setup.{Setup}
-use Rattle.registers.specs.State.{at}
-use Rattle.registers.specs.Contract.{Reaches}
 use Rattle.registers.proofs.Steps.{here, rewritten, call_step, call_stops, ends_well}
 use Rattle.i2c.specs.Polling.{send_byte, write_bytes}
 use Rattle.transfer.proofs.write_bytes.Goals as goal
@@ -30,13 +26,12 @@ returns-in_default c s rx =
     call_stops (c.send_byte-o.ensures s rx) _ (rewritten (next-byte _ _ c.loop-i-test.true) (c.loop-i.invariant.0 s rx)) c.in_default.not-Well
 
 pub loop-i-preserved : goal.loop-i-preserved
-loop-i-preserved c =
-    (
-      (λ s rx. call_step (c.send_byte-o.ensures s rx) _ (rewritten (next-byte _ _ c.loop-i-test.true) (c.loop-i.invariant.0 s rx))
-          c.in-Well.is),
-      omega arith,
-      omega arith,
-    )
+loop-i-preserved c = (
+  (λ s rx. call_step (c.send_byte-o.ensures s rx) _ (rewritten (next-byte _ _ c.loop-i-test.true) (c.loop-i.invariant.0 s rx))
+      c.in-Well.is),
+  omega arith,
+  omega arith,
+)
 
 pub returns : goal.returns
 returns c s rx = ends_well (rewritten (no_byte _ _ c.loop-i-test.false) (c.loop-i.invariant.0 s rx))
