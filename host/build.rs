@@ -1,12 +1,12 @@
-//! Finds the engine's static library, or has `rt` build it, and links it.
+//! Finds the engine's static library, or has it built, and links it.
 //!
 //! In this order: the folder that `ENGINE_LIBRARY` names (a relative one starts at this package);
-//! `target/staticlib` at the repository's root; that folder again, after `rt staticlib engine`. A
+//! `target/staticlib` at the repository's root; that folder again, after `host/library`. A
 //! library at the repository's root must not be older than what it is built from.
 
 use std::env;
 use std::ffi::OsString;
-use std::io::{self, ErrorKind};
+use std::io;
 use std::path::{Path, PathBuf};
 use std::process::Command;
 
@@ -74,7 +74,7 @@ fn named_folder(folder: PathBuf) -> Result<PathBuf, String> {
     ))
 }
 
-/// The folder of the library that `rt` builds, with a library that is there and not too old.
+/// The folder of the repository's own library, with a library that is there and not too old.
 fn repository_folder(root: &Path) -> Result<PathBuf, String> {
     let folder = root.join("target").join("staticlib");
     let library = folder.join(LIBRARY);
@@ -90,7 +90,7 @@ fn repository_folder(root: &Path) -> Result<PathBuf, String> {
         None => Ok(folder),
         Some(source) => Err(format!(
             "target/staticlib/{LIBRARY} is older than the last change to {}.\n\
-             Run `rt staticlib engine` at the repository's root, which proves the engine and builds its library again.",
+             Run `host/library` at the repository's root, which proves the engine and builds its library again.",
             source.strip_prefix(root).unwrap_or(&source).display()
         )),
     }
@@ -105,17 +105,16 @@ fn with_advice(message: String) -> String {
 
 fn build_library(root: &Path, library: &Path) -> Result<(), String> {
     let missing = format!("{} is not there", library.display());
-    let output = Command::new("rt")
-        .args(["staticlib", "engine"])
-        .current_dir(root)
+    let output = Command::new(root.join("host/library"))
         .output()
         .map_err(|error| not_started(&missing, &error))?;
     if output.status.success() && library.is_file() {
         return Ok(());
     }
     Err(format!(
-        "{missing}, and `rt staticlib engine` did not build it ({}).\n\
-         Run it at the repository's root and correct what it refuses, then build again. It wrote:\n{}{}",
+        "{missing}, and `host/library` did not build it ({}).\n\
+         Run it at the repository's root on a machine that has the Rattle kit, and correct what it refuses,\n\
+         or set ENGINE_LIBRARY to a folder that has {LIBRARY}. It wrote:\n{}{}",
         output.status,
         String::from_utf8_lossy(&output.stdout),
         String::from_utf8_lossy(&output.stderr)
@@ -123,13 +122,9 @@ fn build_library(root: &Path, library: &Path) -> Result<(), String> {
 }
 
 fn not_started(missing: &str, error: &io::Error) -> String {
-    let why = match error.kind() {
-        ErrorKind::NotFound => "`rt` is not on PATH to build it".to_string(),
-        _ => format!("`rt` could not be started to build it: {error}"),
-    };
     format!(
-        "{missing}, and {why}.\n\
-         Run `rt staticlib engine` at the repository's root on a machine that has the Rattle kit,\n\
+        "{missing}, and `host/library` could not be started to build it: {error}.\n\
+         Run it at the repository's root on a machine that has the Rattle kit,\n\
          or set ENGINE_LIBRARY to a folder that has {LIBRARY}."
     )
 }

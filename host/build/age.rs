@@ -7,13 +7,13 @@ use std::io;
 use std::path::{Path, PathBuf};
 use std::time::SystemTime;
 
-/// What `rt staticlib engine` builds the library from: `crates.txt`, and three folders of `engine` and
+/// What `host/library` builds the library from: `crates.txt`, and three folders of `engine_c` and
 /// of each crate below it.
 pub fn sources(root: &Path) -> Result<Vec<PathBuf>, String> {
     let list = root.join("crates.txt");
     let text = fs::read_to_string(&list).map_err(|error| unreadable(&list, &error))?;
     let mut sources = vec![list];
-    for name in with_all_below("engine", &text) {
+    for name in with_all_below("engine_c", &text) {
         let parts =
             ["src", "specs", "proofs"].map(|part| root.join("crates").join(name).join(part));
         // A library of the kit has no folder here.
@@ -22,7 +22,8 @@ pub fn sources(root: &Path) -> Result<Vec<PathBuf>, String> {
     Ok(sources)
 }
 
-/// A crate and each library below it, by the lines `NAME: LIBRARY LIBRARY ..` of `crates.txt`.
+/// A crate and each library below it, by the lines `NAME: LIBRARY LIBRARY ..` of `crates.txt`. More words may
+/// stand before the colon.
 fn with_all_below<'a>(name: &'a str, text: &'a str) -> Vec<&'a str> {
     let mut all = vec![name];
     let mut next = 0;
@@ -40,7 +41,7 @@ fn with_all_below<'a>(name: &'a str, text: &'a str) -> Vec<&'a str> {
 fn libraries<'a>(name: &'a str, text: &'a str) -> impl Iterator<Item = &'a str> {
     text.lines()
         .filter_map(|line| line.split('#').next()?.split_once(':'))
-        .filter(move |(head, _)| head.trim() == name)
+        .filter(move |(head, _)| head.split_whitespace().next() == Some(name))
         .flat_map(|(_, rest)| rest.split_whitespace())
 }
 

@@ -1,7 +1,7 @@
 /*
  * The proved I2C master engine for programs in C (C99 or later) and C++ (C++11 or later).
  *
- * These are the functions of libengine.a, which `rt staticlib engine` writes to target/staticlib. It is machine code
+ * These are the functions of libengine.a, which `host/library` writes to target/staticlib. It is machine code
  * for x86-64 Linux and calls nothing outside itself. host/examples/c has a program, README.md ("C hosts") the commands.
  * What a bus list, a reading and a record are is told in docs/FORMAT.md.
  *

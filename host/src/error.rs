@@ -181,7 +181,7 @@ impl Cause {
             Cause::Refused(refusal) => refusal.advice(),
             Cause::Other(_) => {
                 "The linked library does not belong to this version of the crate. Run \
-                 `rt staticlib engine` at the repository's root, then build again."
+                 `host/library` at the repository's root, then build again."
             }
         }
     }

@@ -10,21 +10,27 @@ use std::time::{Duration, SystemTime};
 
 const LIBRARY: &str = "libengine.a";
 
-/// The root of a small repository.
+/// The root of a small repository, outside this one: `rt` takes every folder below the one that it is run in that has a
+/// `crates.txt` for a repository. It is removed at the end.
 struct Repository(PathBuf);
+
+impl Drop for Repository {
+    fn drop(&mut self) {
+        // One that is already gone is as well.
+        let _ = fs::remove_dir_all(&self.0);
+    }
+}
 
 impl Repository {
     /// A repository with a library that is newer than all else.
     fn new(name: &str) -> Repository {
-        let root = Path::new(env!("CARGO_TARGET_TMPDIR")).join(name);
-        // Left by an earlier run, if it is there.
-        let _ = fs::remove_dir_all(&root);
-        let repository = Repository(root);
+        let own = format!("vandhukril-{}-{name}", std::process::id());
+        let repository = Repository(std::env::temp_dir().join(own));
         repository.write(
             "crates.txt",
-            "# NAME: what it uses\nlow:\nmiddle: low # not above\nengine: middle kit\nabove: engine\n",
+            "# NAME: what it uses\nlow:\nmiddle: low # not above\nengine: middle kit\nengine_c staticlib: engine\nabove: engine\n",
         );
-        for name in ["low", "middle", "engine", "above"] {
+        for name in ["low", "middle", "engine", "engine_c", "above"] {
             for part in ["src", "specs", "proofs/deep", "must-fail"] {
                 repository.write(&format!("crates/{name}/{part}/file"), "");
             }
@@ -85,9 +91,11 @@ fn a_library_that_nothing_is_newer_than_is_not_too_old() {
 #[test]
 fn every_file_that_it_is_built_from_counts() {
     let repository = Repository::new("every_file");
-    let in_crates = ["low", "middle", "engine"].into_iter().flat_map(|name| {
-        ["src", "specs", "proofs/deep"].map(|part| format!("crates/{name}/{part}/file"))
-    });
+    let in_crates = ["low", "middle", "engine", "engine_c"]
+        .into_iter()
+        .flat_map(|name| {
+            ["src", "specs", "proofs/deep"].map(|part| format!("crates/{name}/{part}/file"))
+        });
     for file in in_crates.chain(["crates.txt".to_string()]) {
         repository.set_time(&file, 3);
         assert_eq!(repository.newer().as_ref(), Some(&file));

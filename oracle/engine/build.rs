@@ -1,4 +1,4 @@
-//! Links the proved static library, which `rt staticlib engine` makes. One that is older than the crates is refused,
+//! Links the proved static library, which `host/library` makes. One that is older than the crates is refused,
 //! unless ENGINE_LIBRARY names it.
 
 use std::env;
@@ -16,7 +16,7 @@ fn main() {
         }
         Err(why) => {
             println!("cargo::error={why}");
-            println!("cargo::error=Run `rt staticlib engine` at the repository's root, or set ENGINE_LIBRARY to the library's folder.");
+            println!("cargo::error=Run `host/library` at the repository's root, or set ENGINE_LIBRARY to the library's folder.");
         }
     }
 }

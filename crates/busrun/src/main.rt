@@ -4,90 +4,80 @@
 
 use buffers::{entry_at, first_bytes, first_words};
 use engine::Counts;
+use std::fmt::InlineText;
+use std::fs::File;
+use std::io;
+use std::io::ErrorKind;
+use std::rt::Files;
 
-// What became of a file: its bytes, from the buffer's start, or a failure that has been reported.
-#[derive(Drop)]
-enum File {
-    Bytes(usize),
-    Failed,
+// A file as far as the buffer holds it. One that is not there is empty. A read that fails is no end: half a list would
+// be another list.
+fn read_file(rt: &impl Files, name: &str, buf: &mut [u8]) -> io::Result<usize> {
+    match File::open(rt, name) {
+        Ok(mut file) => input::read_full(&mut file, buf),
+        Err(e) => {
+            if e.kind() == ErrorKind::NotFound {
+                Ok(0)
+            } else {
+                Err(e)
+            }
+        }
+    }
 }
 
-// Reads on until the buffer is full or the file ends. A read that fails is no end: half a list would be another list.
-fn read_open(fd: i32, name: &[u8], buf: &mut [u8]) -> File {
-    let mut done: usize = 0;
-    while done < buf.len() {
-        let got = libc::read(fd, &mut buf[done..]);
-        if got < 0 {
-            os::fail(name);
-            return File::Failed;
-        }
-        let more = io::count(got, &buf[done..]);
-        if more == 0 {
-            return File::Bytes(done);
-        }
-        done += more;
+// Tells on standard error what failed, and why in the system's words, without the number that std adds to them.
+fn report(rt: &impl Eprint, what: &str, error: io::Error) -> io::Result<()> {
+    let text = InlineText::<256>::of(error);
+    let words = text.as_str();
+    match words.split_once(" (os error ") {
+        Some((reason, _)) => eprintln!(rt; "{what}: {reason}"),
+        None => eprintln!(rt; "{what}: {words}"),
     }
-    File::Bytes(done)
-}
-
-// A file as far as the buffer holds it. One that is not there is empty.
-fn read_file(name: &[u8], buf: &mut [u8]) -> File {
-    let fd = os::open_read(name);
-    if fd < 0 {
-        if os::errno() == libc::ENOENT {
-            return File::Bytes(0);
-        }
-        os::fail(name);
-        return File::Failed;
-    }
-    let file = read_open(fd, name, buf);
-    libc::close(fd);
-    file
 }
 
 // Access number `k` of the record, on a line of its own.
-fn print_access(log: &[u32], k: usize) -> bool {
-    show::access(entry_at(log, k)) && show::line_end()
+fn print_access(rt: &impl Print, log: &[u32], k: usize) -> io::Result<()> {
+    show::access(rt, entry_at(log, k))?;
+    show::line_end(rt)
 }
 
-fn print_accesses(log: &[u32], made: usize) -> bool {
+fn print_accesses(rt: &impl Print, log: &[u32], made: usize) -> io::Result<()> {
     for k in 0..made {
-        if !print_access(log, k) {
-            return false;
-        }
+        print_access(rt, log, k)?;
     }
-    true
+    Ok(())
 }
 
 // The received bytes on one line; no line where there are none.
-fn print_received(rx: &[u8], got: usize) -> bool {
+fn print_received(rt: &impl Print, rx: &[u8], got: usize) -> io::Result<()> {
     if got == 0 {
-        return true;
+        return Ok(());
     }
-    show::received(first_bytes(rx, got)) && show::line_end()
+    show::received(rt, first_bytes(rx, got))?;
+    show::line_end(rt)
 }
 
-fn print_run(rx: &[u8], log: &[u32], c: Counts) -> bool {
-    print_accesses(log, c.made)
-        && print_received(rx, c.got)
-        && show::end(c.answer, c.calls, c.used, c.made, c.got)
-        && show::line_end()
+fn print_run(rt: &impl Print, rx: &[u8], log: &[u32], c: Counts) -> io::Result<()> {
+    print_accesses(rt, log, c.made)?;
+    print_received(rt, rx, c.got)?;
+    show::end(rt, c.answer, c.calls, c.used, c.made, c.got)?;
+    show::line_end(rt)
 }
 
-fn main() {
-    let mut list = io::large_buffer();
-    let list_file = read_file(b"list.bin", &mut list);
-    let File::Bytes(size) = list_file else {
-        return;
+fn main(rt: HostRuntime) -> io::Result<()> {
+    let mut list = [0u8; 65536];
+    let size = match read_file(&rt, "list.bin", &mut list) {
+        Ok(size) => size,
+        Err(e) => return report(&rt, "list.bin", e),
     };
     let mut bytes = [0u8; 64000];
-    let readings_file = read_file(b"readings.bin", &mut bytes);
-    let File::Bytes(length) = readings_file else {
-        return;
+    let length = match read_file(&rt, "readings.bin", &mut bytes) {
+        Ok(length) => length,
+        Err(e) => return report(&rt, "readings.bin", e),
     };
     let mut readings = [0u32; 16000];
     let count = buffers::to_words(first_bytes(&bytes, length), &mut readings);
-    let mut rx = io::buffer();
+    let mut rx = [0u8; 4096];
     let mut log = [0u32; 16000];
     let c = engine::run(
         first_bytes(&list, size),
@@ -95,7 +85,8 @@ fn main() {
         &mut rx,
         &mut log,
     );
-    if !print_run(&rx, &log, c) {
-        os::fail(b"standard output");
+    match print_run(&rt, &rx, &log, c) {
+        Ok(()) => Ok(()),
+        Err(e) => report(&rt, "standard output", e),
     }
 }

@@ -9,7 +9,7 @@
 
 ghost use Rattle.std.specs.Prelude.{◌<◌};
 
-use libc::STDOUT_FILENO;
+use std::io;
 
 // A word of the text: the bytes from `from` up to `to`.
 #[derive(Clone, Copy)]
@@ -186,22 +186,20 @@ pub fn put(list: &mut [u8], size: usize, letter: u8, n: usize) -> usize {
 }
 
 // A case's name as it stands in the text, nothing if it stands nowhere.
-pub fn print_name(text: &[u8], from: usize, to: usize) {
+pub fn print_name(rt: &impl Print, text: &[u8], from: usize, to: usize) -> io::Result<()> {
     if from <= to {
         if to <= text.len() {
-            io::write_all(STDOUT_FILENO, &text[from..to]);
+            return rt.write_all(&text[from..to]);
         }
     }
+    Ok(())
 }
 
-pub fn print_number(n: usize) {
-    io::print_decimal(STDOUT_FILENO, n as u64);
+pub fn print_number(rt: &impl Print, n: usize) -> io::Result<()> {
+    print!(rt; "{n}")
 }
 
 // The last line: how many cases were run, and how many of them differ.
-pub fn print_sum(cases: usize, differ: usize) {
-    print_number(cases);
-    io::write_all(STDOUT_FILENO, b" cases, ");
-    print_number(differ);
-    io::write_all(STDOUT_FILENO, b" differ\n");
+pub fn print_sum(rt: &impl Print, cases: usize, differ: usize) -> io::Result<()> {
+    println!(rt; "{cases} cases, {differ} differ")
 }

@@ -1,4 +1,4 @@
-// The engine as hosts see it: the run of a bus list, and every exported function.
+// The engine as hosts see it: the run of a bus list, and the functions that engine_c exports.
 #![tactic(auto)]
 
 ghost use Rattle.std.specs.Prelude.{◌≡◌, length};
@@ -32,8 +32,7 @@ fn speed_out(mode: u32, frequency: u32) -> bool
 }
 
 // The CR2 word of the settings.
-#[unsafe(no_mangle)]
-pub extern "C" fn speed_cr2(pclk1: u32, mode: u32, frequency: u32) -> u32
+pub fn speed_cr2(pclk1: u32, mode: u32, frequency: u32) -> u32
     ensures { result ≡ speed_cr2 pclk1 mode frequency }
 {
     if speed_out(mode, frequency) {
@@ -43,8 +42,7 @@ pub extern "C" fn speed_cr2(pclk1: u32, mode: u32, frequency: u32) -> u32
 }
 
 // The TRISE word of the settings.
-#[unsafe(no_mangle)]
-pub extern "C" fn speed_trise(pclk1: u32, mode: u32, frequency: u32) -> u32
+pub fn speed_trise(pclk1: u32, mode: u32, frequency: u32) -> u32
     ensures { result ≡ speed_trise pclk1 mode frequency }
 {
     if speed_out(mode, frequency) {
@@ -54,8 +52,7 @@ pub extern "C" fn speed_trise(pclk1: u32, mode: u32, frequency: u32) -> u32
 }
 
 // The CCR word of the settings.
-#[unsafe(no_mangle)]
-pub extern "C" fn speed_ccr(pclk1: u32, mode: u32, frequency: u32) -> u32
+pub fn speed_ccr(pclk1: u32, mode: u32, frequency: u32) -> u32
     ensures { result ≡ speed_ccr pclk1 mode frequency }
 {
     if speed_out(mode, frequency) {
@@ -127,8 +124,7 @@ pub fn run(list: &[u8], readings: &[u32], rx: &mut [u8], log: &mut [u32]) -> Cou
 }
 
 // The run for hosts: the answer and the four counts, in the order returned, go to `counts`.
-#[unsafe(no_mangle)]
-pub extern "C" fn bus_run(
+pub fn bus_run(
     list: &[u8],
     readings: &[u32],
     rx: &mut [u8],

@@ -10,11 +10,11 @@
 //   awk '{sub(/ *#.*/,"")}$1=="="{print $2 ": document " $3 ", refusal " $3;n++}END{print n " cases, 0 differ"}' stdin > stdout
 #![tactic(auto)]
 
-use cases::{byte, number, print_name, print_number, word};
-use libc::{STDIN_FILENO, STDOUT_FILENO};
+use cases::{byte, number, print_name, word};
+use std::io;
 
 // What has been read so far.
-#[derive(Drop)]
+#[derive(Clone, Copy)]
 struct State {
     // Where in the text the next word is looked for.
     at: usize,
@@ -58,44 +58,41 @@ fn verdict(list: &[u8], size: usize, room: usize) -> usize {
 
 // A case ends: it is run, printed and counted. The counts cannot wrap, since the text has no room for so many cases;
 // the wrapping sum spares the proof of that.
-fn run(text: &[u8], list: &[u8], s: State) -> State {
+fn run(rt: &impl Print, text: &[u8], list: &[u8], s: State) -> io::Result<State> {
     let got = verdict(list, s.size, s.room);
-    print_name(text, s.name_from, s.name_to);
-    io::write_all(STDOUT_FILENO, b": document ");
-    print_number(s.cause);
-    io::write_all(STDOUT_FILENO, b", refusal ");
-    print_number(got);
-    io::write_all(STDOUT_FILENO, b"\n");
+    let cause = s.cause;
+    print_name(rt, text, s.name_from, s.name_to)?;
+    println!(rt; ": document {cause}, refusal {got}")?;
     let mut after = s;
-    after.cases = std::num::wrapping_add_usize(s.cases, 1);
-    if got != s.cause {
-        after.differ = std::num::wrapping_add_usize(s.differ, 1);
+    after.cases = s.cases.wrapping_add(1);
+    if got != cause {
+        after.differ = s.differ.wrapping_add(1);
     }
-    after
+    Ok(after)
 }
 
 // One word of the text, and for a case's start the three words after it.
-fn step(text: &[u8], list: &mut [u8], s: State) -> State {
+fn step(rt: &impl Print, text: &[u8], list: &mut [u8], s: State) -> io::Result<State> {
     let w = word(text, s.at);
     let first = byte(text, w.from);
     let mut after = s;
     after.at = w.to;
     if first == b'=' {
-        return start(text, after);
+        return Ok(start(text, after));
     }
     if first == b'!' {
-        return run(text, list, after);
+        return run(rt, text, list, after);
     }
     if cases::is_digit(first) {
         after.size = cases::put(list, s.size, s.letter, number(text, w.from, w.to));
-        return after;
+        return Ok(after);
     }
     after.letter = first;
-    after
+    Ok(after)
 }
 
 // All cases. Each step ends further on in the text; the test of that is there so that the loop plainly ends.
-fn run_all(text: &[u8], list: &mut [u8]) -> State {
+fn run_all(rt: &impl Print, text: &[u8], list: &mut [u8]) -> io::Result<State> {
     let mut s = State {
         at: 0,
         letter: b' ',
@@ -109,19 +106,19 @@ fn run_all(text: &[u8], list: &mut [u8]) -> State {
     };
     let mut at = 0;
     while at < text.len() {
-        s = step(text, list, s);
+        s = step(rt, text, list, s)?;
         if s.at <= at {
-            return s;
+            return Ok(s);
         }
         at = s.at;
     }
-    s
+    Ok(s)
 }
 
-fn main() {
-    let mut text = io::large_buffer();
-    let n = io::read_full(STDIN_FILENO, &mut text);
-    let mut list = io::large_buffer();
-    let s = run_all(&text[..n], &mut list);
-    cases::print_sum(s.cases, s.differ);
+fn main(rt: HostRuntime) -> io::Result<()> {
+    let mut text = [0u8; 65536];
+    let n = input::read_full(&mut rt.stdin(), &mut text)?;
+    let mut list = [0u8; 65536];
+    let s = run_all(&rt, &text[..n], &mut list)?;
+    cases::print_sum(&rt, s.cases, s.differ)
 }

@@ -14,8 +14,10 @@ ghost use Rattle.std.specs.Prelude.{◌≤◌};
 
 use buffers::{first_bytes, first_words, run_on, to_words, word_at};
 use engine::Counts;
-use libc::STDOUT_FILENO;
 use registers::ENTRY_WORDS;
+use std::fs::File;
+use std::io;
+use std::io::Read;
 
 // The received buffer's bytes and the record's words, from which each case takes as many as it says.
 const ROOM: usize = 4096;
@@ -27,7 +29,7 @@ const WORDS: usize = 2048;
 const MOST: usize = 29127;
 
 // The first nine words of a case.
-#[derive(Drop)]
+#[derive(Clone, Copy)]
 struct Case {
     // The lengths of the list in bytes, of the readings in words, of the received buffer in bytes, of the record in
     // words.
@@ -44,7 +46,7 @@ struct Case {
 }
 
 // What the file has next.
-#[derive(Drop)]
+#[derive(Clone, Copy)]
 enum Next {
     Case(Case),
     End,
@@ -53,7 +55,7 @@ enum Next {
 }
 
 // The first thing in which a run differs from its case.
-#[derive(Drop)]
+#[derive(Clone, Copy)]
 enum Difference {
     Nothing,
     Answer,
@@ -64,20 +66,12 @@ enum Difference {
 }
 
 // How far the replay is.
-#[derive(Drop)]
+#[derive(Clone, Copy)]
 struct State {
     cases: usize,
     differ: usize,
     // Whether there may be a case more.
     more: bool,
-}
-
-fn print(text: &[u8]) {
-    io::write_all(STDOUT_FILENO, text);
-}
-
-fn print_number(n: usize) {
-    io::print_decimal(STDOUT_FILENO, n as u64);
 }
 
 // The words that so many bytes take.
@@ -140,36 +134,31 @@ fn has_room(case: Case) -> bool {
     (case.room as usize <= ROOM) & (case.words as usize <= WORDS)
 }
 
-// Fills the buffer from the file. A read that fails counts as the file's end: fewer cases then stand in the last line.
-fn fill(fd: i32, buf: &mut [u8]) -> bool {
-    io::read_full(fd, buf) == buf.len()
-}
-
 // What follows a case's first nine words goes to the body's start.
-fn read_body(fd: i32, body: &mut [u8], case: Case) -> Next {
+fn read_body(file: &mut impl Read, body: &mut [u8], case: Case) -> io::Result<Next> {
     let size = 4 * (received_from(case) + in_words(case.got));
     if body.len() < size {
-        return Next::TooLong;
+        return Ok(Next::TooLong);
     }
     if !has_room(case) {
-        return Next::TooLong;
+        return Ok(Next::TooLong);
     }
-    if fill(fd, &mut body[..size]) {
-        return Next::Case(case);
+    if input::read_full(file, &mut body[..size])? == size {
+        return Ok(Next::Case(case));
     }
-    Next::CutShort
+    Ok(Next::CutShort)
 }
 
-fn read_case(fd: i32, body: &mut [u8]) -> Next {
+fn read_case(file: &mut impl Read, body: &mut [u8]) -> io::Result<Next> {
     let mut head = [0u8; 36];
-    let n = io::read_full(fd, &mut head);
+    let n = input::read_full(file, &mut head)?;
     if n == 0 {
-        return Next::End;
+        return Ok(Next::End);
     }
     if n < 36 {
-        return Next::CutShort;
+        return Ok(Next::CutShort);
     }
-    read_body(fd, body, case_of(&head))
+    read_body(file, body, case_of(&head))
 }
 
 // What the received buffer has at `at` before a run. Neighbours differ, so that a byte moved from elsewhere shows too.
@@ -288,7 +277,7 @@ fn compare(body: &[u8], case: Case, rx: &[u8], log: &[u32], c: Counts) -> Differ
 fn count(answers: &mut [u32], answer: u32) {
     let at = answer as usize;
     if at < answers.len() {
-        answers[at] = std::num::wrapping_add_u32(answers[at], 1);
+        answers[at] = answers[at].wrapping_add(1);
     }
 }
 
@@ -316,20 +305,18 @@ fn replay(body: &[u8], case: Case, answers: &mut [u32]) -> Difference {
 }
 
 // Names a case, numbered from 0, and what is wrong with it.
-fn name(number: usize, what: &[u8]) {
-    print(b"case ");
-    print_number(number);
-    print(what);
+fn name(rt: &impl Print, number: usize, what: &str) -> io::Result<()> {
+    println!(rt; "case {number} {what}")
 }
 
-fn name_difference(number: usize, d: Difference) {
+fn name_difference(rt: &impl Print, number: usize, d: Difference) -> io::Result<()> {
     match d {
-        Difference::Nothing => {}
-        Difference::Answer => name(number, b" differs: answer\n"),
-        Difference::Counts => name(number, b" differs: counts\n"),
-        Difference::Record => name(number, b" differs: record\n"),
-        Difference::Received => name(number, b" differs: received\n"),
-        Difference::PastTheEnd => name(number, b" differs: past the end\n"),
+        Difference::Nothing => Ok(()),
+        Difference::Answer => name(rt, number, "differs: answer"),
+        Difference::Counts => name(rt, number, "differs: counts"),
+        Difference::Record => name(rt, number, "differs: record"),
+        Difference::Received => name(rt, number, "differs: received"),
+        Difference::PastTheEnd => name(rt, number, "differs: past the end"),
     }
 }
 
@@ -341,17 +328,17 @@ fn is_nothing(d: Difference) -> bool {
 }
 
 // One case more. The sums cannot wrap either.
-fn counted(s: State, d: Difference) -> State {
+fn counted(rt: &impl Print, s: State, d: Difference) -> io::Result<State> {
     let mut after = s;
-    after.cases = std::num::wrapping_add_usize(s.cases, 1);
+    after.cases = s.cases.wrapping_add(1);
     if is_nothing(d) {
-        return after;
+        return Ok(after);
     }
     if s.differ == 0 {
-        name_difference(s.cases, d);
+        name_difference(rt, s.cases, d)?;
     }
-    after.differ = std::num::wrapping_add_usize(s.differ, 1);
-    after
+    after.differ = s.differ.wrapping_add(1);
+    Ok(after)
 }
 
 // No case more.
@@ -361,70 +348,72 @@ fn ended(s: State) -> State {
     after
 }
 
-fn step(fd: i32, body: &mut [u8], answers: &mut [u32], s: State) -> State {
-    let next = read_case(fd, body);
+fn step(
+    rt: &impl Print,
+    file: &mut impl Read,
+    body: &mut [u8],
+    answers: &mut [u32],
+    s: State,
+) -> io::Result<State> {
+    let next = read_case(file, body)?;
     match next {
-        Next::Case(case) => counted(s, replay(body, case, answers)),
-        Next::End => ended(s),
+        Next::Case(case) => counted(rt, s, replay(body, case, answers)),
+        Next::End => Ok(ended(s)),
         Next::CutShort => {
-            name(s.cases, b" is cut short\n");
-            ended(s)
+            name(rt, s.cases, "is cut short")?;
+            Ok(ended(s))
         }
         Next::TooLong => {
-            name(s.cases, b" is too long\n");
-            ended(s)
+            name(rt, s.cases, "is too long")?;
+            Ok(ended(s))
         }
     }
 }
 
-fn replay_all(fd: i32, body: &mut [u8], answers: &mut [u32]) -> State {
+fn replay_all(
+    rt: &impl Print,
+    file: &mut impl Read,
+    body: &mut [u8],
+    answers: &mut [u32],
+) -> io::Result<State> {
     let mut s = State {
         cases: 0,
         differ: 0,
         more: true,
     };
     for _ in 0..MOST {
-        s = step(fd, body, answers, s);
+        s = step(rt, file, body, answers, s)?;
         if !s.more {
-            return s;
+            return Ok(s);
         }
     }
-    s
+    Ok(s)
 }
 
 // How many runs had the answer; no line where none had.
-fn print_answer(answer: usize, runs: u32) {
+fn print_answer(rt: &impl Print, answer: usize, runs: u32) -> io::Result<()> {
     if runs == 0 {
-        return;
+        return Ok(());
     }
-    print(b"answer ");
-    print_number(answer);
-    print(b": ");
-    print_number(runs as usize);
-    print(b" cases\n");
+    println!(rt; "answer {answer}: {runs} cases")
 }
 
-fn print_answers(answers: &[u32]) {
+fn print_answers(rt: &impl Print, answers: &[u32]) -> io::Result<()> {
     let mut i: usize = 0;
     while i < answers.len() {
-        print_answer(i, answers[i]);
+        print_answer(rt, i, answers[i])?;
         i += 1;
     }
+    Ok(())
 }
 
-fn main() {
-    let fd = os::open_read(b"vectors.bin");
-    if fd < 0 {
-        os::fail(b"vectors.bin");
-        return;
-    }
-    let mut body = io::buffer();
+fn main(rt: HostRuntime) -> io::Result<()> {
+    let mut file = File::open(&rt, "vectors.bin")?;
+    let mut body = [0u8; 4096];
     let mut answers = [0u32; 28];
-    let s = replay_all(fd, &mut body, &mut answers);
-    libc::close(fd);
-    print_answers(&answers);
-    print_number(s.cases);
-    print(b" cases, ");
-    print_number(s.differ);
-    print(b" differ\n");
+    let s = replay_all(&rt, &mut file, &mut body, &mut answers)?;
+    print_answers(&rt, &answers)?;
+    let cases = s.cases;
+    let differ = s.differ;
+    println!(rt; "{cases} cases, {differ} differ")
 }

@@ -21,7 +21,7 @@
 use buffers::{entries_in, entry_at, first_bytes, first_entries, first_words, run_on};
 use cases::{byte, number, print_name, word};
 use engine::Counts;
-use libc::{STDIN_FILENO, STDOUT_FILENO};
+use std::io;
 
 // What both buffers are full of before a run, to see what the run leaves as it was.
 const OLD_BYTE: u8 = 165;
@@ -29,7 +29,7 @@ const OLD_BYTE: u8 = 165;
 const OLD_WORD: u32 = 2779096485;
 
 // What has been read so far.
-#[derive(Drop)]
+#[derive(Clone, Copy)]
 struct State {
     // Where in the text the next word is looked for.
     at: usize,
@@ -181,81 +181,80 @@ fn agrees(
         && old_bytes(rx, c.got)
 }
 
-fn print(text: &[u8]) {
-    io::write_all(STDOUT_FILENO, text);
-}
-
 // Access number `k`, a mark where there is none.
-fn print_access(words: &[u32], k: usize) {
+fn print_access(rt: &impl Print, words: &[u32], k: usize) -> io::Result<()> {
     if k < entries_in(words) {
-        show::access(entry_at(words, k));
+        show::access(rt, entry_at(words, k))
     } else {
-        print(b"-");
+        print!(rt; "-")
     }
 }
 
 // Accesses number `k`, from the document and from the run.
-fn print_pair(accesses: &[u32], made: &[u32], k: usize) {
-    print(b"  document ");
-    print_access(accesses, k);
-    print(b", run ");
-    print_access(made, k);
-    show::line_end();
+fn print_pair(rt: &impl Print, accesses: &[u32], made: &[u32], k: usize) -> io::Result<()> {
+    print!(rt; "  document ")?;
+    print_access(rt, accesses, k)?;
+    print!(rt; ", run ")?;
+    print_access(rt, made, k)?;
+    show::line_end(rt)
 }
 
 fn most(a: usize, b: usize) -> usize {
     if a < b { b } else { a }
 }
 
-fn print_pairs(accesses: &[u32], made: &[u32]) {
+fn print_pairs(rt: &impl Print, accesses: &[u32], made: &[u32]) -> io::Result<()> {
     for k in 0..most(entries_in(accesses), entries_in(made)) {
-        print_pair(accesses, made, k);
+        print_pair(rt, accesses, made, k)?;
     }
+    Ok(())
 }
 
 // The received bytes from both sides, where either side has any.
-fn print_received(bytes: &[u8], got: &[u8]) {
+fn print_received(rt: &impl Print, bytes: &[u8], got: &[u8]) -> io::Result<()> {
     if most(bytes.len(), got.len()) == 0 {
-        return;
+        return Ok(());
     }
-    print(b"  document ");
-    show::received(bytes);
-    print(b", run ");
-    show::received(got);
-    show::line_end();
+    print!(rt; "  document ")?;
+    show::received(rt, bytes)?;
+    print!(rt; ", run ")?;
+    show::received(rt, got)?;
+    show::line_end(rt)
 }
 
 // The answer and the counts from both sides.
-fn print_end(counts: &[u32], c: Counts) {
-    print(b"  document ");
+fn print_end(rt: &impl Print, counts: &[u32], c: Counts) -> io::Result<()> {
+    print!(rt; "  document ")?;
     show::end(
+        rt,
         word_at(counts, 0),
         word_at(counts, 1) as usize,
         word_at(counts, 2) as usize,
         word_at(counts, 3) as usize,
         word_at(counts, 4) as usize,
-    );
-    print(b", run ");
-    show::end(c.answer, c.calls, c.used, c.made, c.got);
-    show::line_end();
+    )?;
+    print!(rt; ", run ")?;
+    show::end(rt, c.answer, c.calls, c.used, c.made, c.got)?;
+    show::line_end(rt)
 }
 
 // One case more, and one more that differs where it does. The counts cannot wrap, since the text has no room for so
 // many cases; the wrapping sum spares the proof of that.
-fn counted(s: State, agreed: bool) -> State {
+fn counted(rt: &impl Print, s: State, agreed: bool) -> io::Result<State> {
     let mut after = s;
-    after.cases = std::num::wrapping_add_usize(s.cases, 1);
+    after.cases = s.cases.wrapping_add(1);
     if agreed {
-        print(b"  agrees\n");
+        println!(rt; "  agrees")?;
     } else {
-        print(b"  DIFFERS\n");
-        after.differ = std::num::wrapping_add_usize(s.differ, 1);
+        println!(rt; "  DIFFERS")?;
+        after.differ = s.differ.wrapping_add(1);
     }
-    after
+    Ok(after)
 }
 
 // A case ends: it is run, printed and counted.
 fn run(
+    rt: &impl Print,
     text: &[u8],
     list: &[u8],
     readings: &[u32],
@@ -263,7 +262,7 @@ fn run(
     bytes: &[u8],
     counts: &[u32],
     s: State,
-) -> State {
+) -> io::Result<State> {
     let mut rx = [OLD_BYTE; 64];
     let mut log = [OLD_WORD; 256];
     let list = first_bytes(list, s.size);
@@ -272,16 +271,17 @@ fn run(
     let accesses = first_words(accesses, s.accesses);
     let bytes = first_bytes(bytes, s.bytes);
     let counts = first_words(counts, s.counts);
-    print_name(text, s.name_from, s.name_to);
-    print(b":\n");
-    print_pairs(accesses, first_entries(&log, c.made));
-    print_received(bytes, first_bytes(&rx, c.got));
-    print_end(counts, c);
-    counted(s, agrees(accesses, bytes, counts, &log, &rx, c))
+    print_name(rt, text, s.name_from, s.name_to)?;
+    println!(rt; ":")?;
+    print_pairs(rt, accesses, first_entries(&log, c.made))?;
+    print_received(rt, bytes, first_bytes(&rx, c.got))?;
+    print_end(rt, counts, c)?;
+    counted(rt, s, agrees(accesses, bytes, counts, &log, &rx, c))
 }
 
 // One word of the text, and for a case's start the three words after it.
 fn step(
+    rt: &impl Print,
     text: &[u8],
     list: &mut [u8],
     readings: &mut [u32],
@@ -289,23 +289,23 @@ fn step(
     bytes: &mut [u8],
     counts: &mut [u32],
     s: State,
-) -> State {
+) -> io::Result<State> {
     let w = word(text, s.at);
     let first = byte(text, w.from);
     let mut after = s;
     after.at = w.to;
     if first == b'=' {
-        return start(text, after);
+        return Ok(start(text, after));
     }
     if first == b'!' {
-        return run(text, list, readings, accesses, bytes, counts, after);
+        return run(rt, text, list, readings, accesses, bytes, counts, after);
     }
     if cases::is_digit(first) {
         let n = number(text, w.from, w.to);
-        return put(list, readings, accesses, bytes, counts, after, n);
+        return Ok(put(list, readings, accesses, bytes, counts, after, n));
     }
     after.letter = first;
-    after
+    Ok(after)
 }
 
 // Nothing read so far.
@@ -329,40 +329,42 @@ fn nothing() -> State {
 
 // All cases. Each step ends further on in the text; the test of that is there so that the loop plainly ends.
 fn run_all(
+    rt: &impl Print,
     text: &[u8],
     list: &mut [u8],
     readings: &mut [u32],
     accesses: &mut [u32],
     bytes: &mut [u8],
     counts: &mut [u32],
-) -> State {
+) -> io::Result<State> {
     let mut s = nothing();
     let mut at = 0;
     while at < text.len() {
-        s = step(text, list, readings, accesses, bytes, counts, s);
+        s = step(rt, text, list, readings, accesses, bytes, counts, s)?;
         if s.at <= at {
-            return s;
+            return Ok(s);
         }
         at = s.at;
     }
-    s
+    Ok(s)
 }
 
-fn main() {
-    let mut text = io::large_buffer();
-    let n = io::read_full(STDIN_FILENO, &mut text);
-    let mut list = io::buffer();
+fn main(rt: HostRuntime) -> io::Result<()> {
+    let mut text = [0u8; 65536];
+    let n = input::read_full(&mut rt.stdin(), &mut text)?;
+    let mut list = [0u8; 4096];
     let mut readings = [0u32; 1024];
     let mut accesses = [0u32; 2048];
-    let mut bytes = io::buffer();
+    let mut bytes = [0u8; 4096];
     let mut counts = [0u32; 8];
     let s = run_all(
+        &rt,
         &text[..n],
         &mut list,
         &mut readings,
         &mut accesses,
         &mut bytes,
         &mut counts,
-    );
-    cases::print_sum(s.cases, s.differ);
+    )?;
+    cases::print_sum(&rt, s.cases, s.differ)
 }

@@ -1,42 +1,46 @@
 // A run as text on standard output, written field by field: no array holds the text of more than one field, and a space
-// or a line end is written by itself (C-12). Each function answers whether all of it was written, and stops at the
-// first field that was not.
+// or a line end is written by itself (C-12): no writer in between holds text back, and each call of `write_all` and each
+// `print!` here makes its own write. Each function stops at the first field that was not written, with its error.
 #![tactic(auto)]
 
-use libc::STDOUT_FILENO;
 use registers::Entry;
+use std::io;
 
-fn field(text: &[u8]) -> bool {
-    io::write_all(STDOUT_FILENO, text)
+fn field(rt: &impl Print, text: &[u8]) -> io::Result<()> {
+    rt.write_all(text)
 }
 
 // The space that parts two fields.
-fn space() -> bool {
-    field(b" ")
+fn space(rt: &impl Print) -> io::Result<()> {
+    field(rt, b" ")
 }
 
 // What ends every line, the last one too.
-pub fn line_end() -> bool {
-    field(b"\n")
+pub fn line_end(rt: &impl Print) -> io::Result<()> {
+    field(rt, b"\n")
 }
 
 // The codes of reads are below those of writes.
-fn direction(code: u32) -> bool {
-    if code < 11 { field(b"r") } else { field(b"w") }
+fn direction(rt: &impl Print, code: u32) -> io::Result<()> {
+    if code < 11 {
+        field(rt, b"r")
+    } else {
+        field(rt, b"w")
+    }
 }
 
 // The register of a code. No access has another code; a mark shows it if a record written by hand has.
-fn register(code: u32) -> bool {
+fn register(rt: &impl Print, code: u32) -> io::Result<()> {
     match code {
-        1 | 15 => field(b"sr1"),
-        2 => field(b"sr2"),
-        3 | 11 => field(b"cr1"),
-        4 | 16 => field(b"dr"),
-        5 => field(b"cyc"),
-        12 => field(b"cr2"),
-        13 => field(b"ccr"),
-        14 => field(b"trise"),
-        _ => field(b"?"),
+        1 | 15 => field(rt, b"sr1"),
+        2 => field(rt, b"sr2"),
+        3 | 11 => field(rt, b"cr1"),
+        4 | 16 => field(rt, b"dr"),
+        5 => field(rt, b"cyc"),
+        12 => field(rt, b"cr2"),
+        13 => field(rt, b"ccr"),
+        14 => field(rt, b"trise"),
+        _ => field(rt, b"?"),
     }
 }
 
@@ -46,45 +50,50 @@ fn digits(code: u32) -> usize {
 }
 
 // One access, without its line end.
-pub fn access(entry: Entry) -> bool {
-    direction(entry.code)
-        && space()
-        && register(entry.code)
-        && space()
-        && io::print_hex(STDOUT_FILENO, entry.value as u64, digits(entry.code))
+pub fn access(rt: &impl Print, entry: Entry) -> io::Result<()> {
+    let value = entry.value;
+    let digits = digits(entry.code);
+    direction(rt, entry.code)?;
+    space(rt)?;
+    register(rt, entry.code)?;
+    space(rt)?;
+    print!(rt; "{value:0digits$x}")
 }
 
 // The received bytes, without the line end.
-pub fn received(bytes: &[u8]) -> bool {
-    if !field(b"rx") {
-        return false;
+pub fn received(rt: &impl Print, bytes: &[u8]) -> io::Result<()> {
+    field(rt, b"rx")?;
+    for b in bytes {
+        byte(rt, *b)?;
     }
-    let mut i: usize = 0;
-    while i < bytes.len() {
-        if !byte(bytes[i]) {
-            return false;
-        }
-        i += 1;
-    }
-    true
+    Ok(())
 }
 
 // One received byte, with the space before it.
-fn byte(b: u8) -> bool {
-    space() && io::print_hex(STDOUT_FILENO, b as u64, 2)
+fn byte(rt: &impl Print, b: u8) -> io::Result<()> {
+    space(rt)?;
+    print!(rt; "{b:02x}")
 }
 
 // One number of the last line, with the space before it.
-fn number(n: u64) -> bool {
-    space() && io::print_decimal(STDOUT_FILENO, n)
+fn number(rt: &impl Print, n: u64) -> io::Result<()> {
+    space(rt)?;
+    print!(rt; "{n}")
 }
 
 // The answer and the four counts, in the order returned, without the line end.
-pub fn end(answer: u32, calls: usize, used: usize, made: usize, got: usize) -> bool {
-    field(b"end")
-        && number(answer as u64)
-        && number(calls as u64)
-        && number(used as u64)
-        && number(made as u64)
-        && number(got as u64)
+pub fn end(
+    rt: &impl Print,
+    answer: u32,
+    calls: usize,
+    used: usize,
+    made: usize,
+    got: usize,
+) -> io::Result<()> {
+    field(rt, b"end")?;
+    number(rt, answer as u64)?;
+    number(rt, calls as u64)?;
+    number(rt, used as u64)?;
+    number(rt, made as u64)?;
+    number(rt, got as u64)
 }
