@@ -124,13 +124,7 @@ pub fn run(list: &[u8], readings: &[u32], rx: &mut [u8], log: &mut [u32]) -> Cou
 }
 
 // The run for hosts: the answer and the four counts, in the order returned, go to `counts`.
-pub fn bus_run(
-    list: &[u8],
-    readings: &[u32],
-    rx: &mut [u8],
-    log: &mut [u32],
-    counts: &mut [u64; 5],
-)
+pub fn bus_run(list: &[u8], readings: &[u32], rx: &mut [u8], log: &mut [u32], counts: &mut [u64; 5])
     ensures { HostRuns list readings rx log counts }
 {
     let c = run(list, readings, rx, log);
