@@ -4,7 +4,6 @@
 
 use buffers::{entry_at, first_bytes, first_words};
 use engine::Counts;
-use std::fmt::InlineText;
 use std::fs::File;
 use std::io;
 use std::io::ErrorKind;
@@ -22,16 +21,6 @@ fn read_file(rt: &impl Files, name: &str, buf: &mut [u8]) -> io::Result<usize> {
                 Err(e)
             }
         }
-    }
-}
-
-// Tells on standard error what failed, and why in the system's words, without the number that std adds to them.
-fn report(rt: &impl Eprint, what: &str, error: io::Error) -> io::Result<()> {
-    let text = InlineText::<256>::of(error);
-    let words = text.as_str();
-    match words.split_once(" (os error ") {
-        Some((reason, _)) => eprintln!(rt; "{what}: {reason}"),
-        None => eprintln!(rt; "{what}: {words}"),
     }
 }
 
@@ -68,12 +57,12 @@ fn main(rt: HostRuntime) -> io::Result<()> {
     let mut list = [0u8; 65536];
     let size = match read_file(&rt, "list.bin", &mut list) {
         Ok(size) => size,
-        Err(e) => return report(&rt, "list.bin", e),
+        Err(e) => return input::report(&rt, "list.bin", e),
     };
     let mut bytes = [0u8; 64000];
     let length = match read_file(&rt, "readings.bin", &mut bytes) {
         Ok(length) => length,
-        Err(e) => return report(&rt, "readings.bin", e),
+        Err(e) => return input::report(&rt, "readings.bin", e),
     };
     let mut readings = [0u32; 16000];
     let count = buffers::to_words(first_bytes(&bytes, length), &mut readings);
@@ -87,6 +76,6 @@ fn main(rt: HostRuntime) -> io::Result<()> {
     );
     match print_run(&rt, &rx, &log, c) {
         Ok(()) => Ok(()),
-        Err(e) => report(&rt, "standard output", e),
+        Err(e) => input::report(&rt, "standard output", e),
     }
 }

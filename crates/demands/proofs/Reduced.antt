@@ -150,20 +150,20 @@ one-read n (read (suc m) ∷ os) h =
     r
 
 -- from a write on there is that one, and a read after it or none
-one-write : (b : ℕ) (bs : List ℕ) (os : List Operation) → Fails (read_then_write (gather (write (b ∷ bs)) (dropped os))) → Halves (gather (write (b ∷ bs)) (dropped os))
+one_write : (b : ℕ) (bs : List ℕ) (os : List Operation) → Fails (read_then_write (gather (write (b ∷ bs)) (dropped os))) → Halves (gather (write (b ∷ bs)) (dropped os))
 unfolding gather dropped read_then_write
-one-write b bs [] h = Halves.write_first Tail.alone
-one-write b bs (write [] ∷ os) h = one-write b bs os h
-one-write b bs (write (c ∷ cs) ∷ os) h = one-write b (bs ++ (c ∷ cs)) os h
-one-write b bs (read zero ∷ os) h = one-write b bs os h
-one-write b bs (read (suc n) ∷ os) h = rw (one-read n os h).1 (Halves.write_first Tail.read-after)
+one_write b bs [] h = Halves.write_first Tail.alone
+one_write b bs (write [] ∷ os) h = one_write b bs os h
+one_write b bs (write (c ∷ cs) ∷ os) h = one_write b (bs ++ (c ∷ cs)) os h
+one_write b bs (read zero ∷ os) h = one_write b bs os h
+one_write b bs (read (suc n) ∷ os) h = rw (one-read n os h).1 (Halves.write_first Tail.read-after)
 
 -- so they are a write, a read, or both, where anything is left
 pub halves : (os : List Operation) → Fails (read_then_write (combined os)) → Fails (is_empty (dropped os)) → Halves (combined os)
 unfolding joined dropped
 halves [] h b = absurd b
 halves (write [] ∷ os) h b = halves os h b
-halves (write (c ∷ cs) ∷ os) h b = one-write c cs os h
+halves (write (c ∷ cs) ∷ os) h b = one_write c cs os h
 halves (read zero ∷ os) h b = halves os h b
 halves (read (suc n) ∷ os) h b = rw (one-read n os h).1 Halves.read_alone
 

@@ -36,8 +36,8 @@ alone c = list_of (c ∷ [])
 abbrev two_writes : Call
 two_writes = call_to 3 (write (1 ∷ []) ∷ write (2 ∷ []) ∷ [])
 
-abbrev one-write : Call
-one-write = call_to 0 (write (1 ∷ 2 ∷ []) ∷ [])
+abbrev one_write : Call
+one_write = call_to 0 (write (1 ∷ 2 ∷ []) ∷ [])
 
 -- a blocking write_read with an empty read, and a blocking write
 abbrev empty_half : Call
@@ -64,12 +64,12 @@ two_reads = call_to 3 (write (1 ∷ []) ∷ read 1 ∷ read 1 ∷ [])
 abbrev empty_read : Call
 empty_read = call_to 3 (read 1 ∷ read 0 ∷ [])
 
-abbrev full-read : Call
-full-read = call_to 1 (read 1 ∷ [])
+abbrev full_read : Call
+full_read = call_to 1 (read 1 ∷ [])
 
 -- calls of kind 7 in several parts, empty ones among them: a write, one with another byte, a read, and both
-abbrev combined-write : Call
-combined-write = call_to 7 (write (1 ∷ []) ∷ read 0 ∷ write (2 ∷ []) ∷ [])
+abbrev combined_write : Call
+combined_write = call_to 7 (write (1 ∷ []) ∷ read 0 ∷ write (2 ∷ []) ∷ [])
 
 abbrev combined_other : Call
 combined_other = call_to 7 (write (1 ∷ []) ∷ write (3 ∷ []) ∷ write [] ∷ [])
@@ -132,7 +132,7 @@ abbrev both : List ℕ
 both = list_of (two_writes ∷ empty_half ∷ [])
 
 abbrev both' : List ℕ
-both' = list_of (one-write ∷ blocking_one ∷ [])
+both' = list_of (one_write ∷ blocking_one ∷ [])
 
 -- readings on which the calls end well, after the bring-up's 0: of a polling write, a blocking write, and a polling read after a write;
 -- of a blocking read of two bytes, and a blocking read of one after a write
@@ -218,8 +218,8 @@ pub record NotSame (l m : List ℕ) (rx : ℕ) (readings : List ℕ) : Type 0 wh
 
 pub record Witness : Type 0 where
   -- one pair for each engine
-  pub polling_pair : Alike (alone two_writes) (alone one-write) 0
-  pub polling_ends : EndWell (alone two_writes) (alone one-write) 0 (0 ∷ polled)
+  pub polling_pair : Alike (alone two_writes) (alone one_write) 0
+  pub polling_ends : EndWell (alone two_writes) (alone one_write) 0 (0 ∷ polled)
   pub blocking_pair : Alike (alone empty_half) (alone blocking_one) 0
   pub blocking_ends : EndWell (alone empty_half) (alone blocking_one) 0 (0 ∷ timed)
   -- a pair that receives, and the bytes
@@ -230,8 +230,8 @@ pub record Witness : Type 0 where
   pub both_pair : Alike both both' 0
   pub both_ends : EndWell both both' 0 (0 ∷ polled ++ timed)
   -- kind 7 against each of kinds 4, 5 and 6
-  pub write_pair : Alike (alone combined-write) (alone blocking_one) 0
-  pub write_ends : EndWell (alone combined-write) (alone blocking_one) 0 (0 ∷ timed)
+  pub write_pair : Alike (alone combined_write) (alone blocking_one) 0
+  pub write_ends : EndWell (alone combined_write) (alone blocking_one) 0 (0 ∷ timed)
   pub read_pair : Alike (alone combined-read) (alone blocking_two) 2
   pub read_ends : EndWell (alone combined-read) (alone blocking_two) 2 (0 ∷ timed_read)
   pub read_bytes : received_of (flat (run (alone combined-read) (0 ∷ timed_read) 2 100).log) ≡ 0x2a ∷ 0x2b ∷ []
@@ -244,20 +244,20 @@ pub record Witness : Type 0 where
   pub ten_read_ends : EndWell (alone ten_reads) (alone ten_read) 2 (0 ∷ ten_turned)
   pub ten_read_bytes : received_of (flat (run (alone ten_reads) (0 ∷ ten_turned) 2 100).log) ≡ 0x2a ∷ 0x2b ∷ []
   -- one pair for each engine that its records tell apart, and two calls of kind 7
-  pub polling_unlike : Unlike (alone one-write) (alone other_write) 0 (0 ∷ polled)
+  pub polling_unlike : Unlike (alone one_write) (alone other_write) 0 (0 ∷ polled)
   pub blocking_unlike : Unlike (alone blocking_one) (alone blocking_other) 0 (0 ∷ timed)
-  pub combined_unlike : Unlike (alone combined-write) (alone combined_other) 0 (0 ∷ timed)
+  pub combined_unlike : Unlike (alone combined_write) (alone combined_other) 0 (0 ∷ timed)
   -- calls of different widths that begin with the same byte: with the same bytes sent, and with the same operations
   pub width_unlike : Unlike (alone seven_five) (alone ten_five) 0 (0 ∷ either_width)
   pub seven_sent : sent (flat (run (alone seven_five) (0 ∷ either_width) 0 100).log) ≡ 0xf0 ∷ 5 ∷ []
   pub ten_sent : sent (flat (run (alone ten_five) (0 ∷ either_width) 0 100).log) ≡ 0xf0 ∷ 5 ∷ []
   pub same_operations : Unlike (alone seven_five) (alone ten_zero) 0 (0 ∷ either_width)
   -- why no call may be idle: for each idle call, a list with it and one without
-  pub idle_transaction : NotTold (list_of (one-write ∷ no_operations ∷ [])) (alone one-write) (0 ∷ polled)
-  pub idle_write_read : NotTold (list_of (one-write ∷ empty_halves ∷ [])) (alone one-write) (0 ∷ polled)
-  pub idle-combined : NotTold (list_of (one-write ∷ nothing_left ∷ [])) (alone one-write) (0 ∷ polled)
+  pub idle_transaction : NotTold (list_of (one_write ∷ no_operations ∷ [])) (alone one_write) (0 ∷ polled)
+  pub idle_write_read : NotTold (list_of (one_write ∷ empty_halves ∷ [])) (alone one_write) (0 ∷ polled)
+  pub idle_combined : NotTold (list_of (one_write ∷ nothing_left ∷ [])) (alone one_write) (0 ∷ polled)
   -- why no polling call may end in an empty read
-  pub empty_last_read : NotSame (alone empty_read) (alone full-read) 1 (0 ∷ polled)
+  pub empty_last_read : NotSame (alone empty_read) (alone full_read) 1 (0 ∷ polled)
 
 -- lists whose first calls are of other kinds are unlike
 alike : {l m : List ℕ} {rx : ℕ} → (byte l 64 ≡ byte m 64 → ⊥) → settings_words l ≡ settings_words m → any idle (calls_of l) ≡ false → any idle (calls_of m) ≡ false
@@ -351,7 +351,7 @@ witness =
       same_operations = unlike first_width (omega arith) refl refl refl refl refl refl refl;
       idle_transaction = not_told (omega arith) refl refl refl refl refl refl refl refl;
       idle_write_read = not_told (omega arith) refl refl refl refl refl refl refl refl;
-      idle-combined = not_told (omega arith) refl refl refl refl refl refl refl refl;
+      idle_combined = not_told (omega arith) refl refl refl refl refl refl refl refl;
       empty_last_read =
           record {
             alike = alike (omega arith) refl refl refl refl refl refl;

@@ -1,9 +1,11 @@
-// What the programs read with: a buffer is filled from a file or from standard input, as far as there is anything.
+// What the programs read with: a buffer is filled from a file or from standard input, as far as there is anything; and
+// what they say where something failed.
 #![tactic(auto)]
 
 ghost use Rattle.std.specs.Prelude.{◌≤◌, ◌<◌, length, take, IfOk};
 ghost use Rattle.std.specs.Io.KnownBytes.{Consumes, IsAtEnd};
 
+use std::fmt::InlineText;
 use std::io;
 use std::io::Read;
 
@@ -23,4 +25,14 @@ pub fn read_full<R: Read>(from: &mut R, buf: &mut [u8]) -> io::Result<usize>
         done += more;
     }
     Ok(done)
+}
+
+// Tells on standard error what failed, and why in the system's words, without the number that std adds to them.
+pub fn report(rt: &impl Eprint, what: &str, error: io::Error) -> io::Result<()> {
+    let text = InlineText::<256>::of(error);
+    let words = text.as_str();
+    match words.split_once(" (os error ") {
+        Some((reason, _)) => eprintln!(rt; "{what}: {reason}"),
+        None => eprintln!(rt; "{what}: {words}"),
+    }
 }

@@ -408,7 +408,10 @@ fn print_answers(rt: &impl Print, answers: &[u32]) -> io::Result<()> {
 }
 
 fn main(rt: HostRuntime) -> io::Result<()> {
-    let mut file = File::open(&rt, "vectors.bin")?;
+    let mut file = match File::open(&rt, "vectors.bin") {
+        Ok(file) => file,
+        Err(e) => return input::report(&rt, "vectors.bin", e),
+    };
     let mut body = [0u8; 4096];
     let mut answers = [0u32; 28];
     let s = replay_all(&rt, &mut file, &mut body, &mut answers)?;
