@@ -1,389 +1,215 @@
 // The rest of the blocking I2C master, named and ordered as the Rust's src/i2c/blocking.rs: the close of a write, and the read.
 #![tactic(auto)]
 
-ghost use Rattle.std.specs.Prelude.{◌<◌, ◌≤◌};
-ghost use Rattle.registers.specs.Contract.{DoesWith, Does, Receives};
-ghost use Rattle.blocking.specs.Blocking.{one_ready, more_ready, third_last, second_last, close, receive, finish_read, read_one, two_ready, two_bytes, two_end, read_two, receive_bytes, last_three, read_more, read_arm, read_steps, close_after};
+ghost use Rattle.std.specs.Prelude.{◌≡◌, ◌<◌, true, [], ◌∷◌};
+ghost use Rattle.registers.specs.Contract.{Does};
+ghost use Rattle.timed.specs.Poll.{waited_flag};
+ghost use Rattle.blocking.specs.Blocking.{stop_wait, read_wait, one_ready, more_ready, third_last, second_last, close, receive, finish_read, read_one, two_ready, two_bytes, two_end, read_two, receive_bytes, last_three, read_more, read_arm, read_steps, close_after};
 
-use blocking_write::{read_status, send_start_and_addr};
+use blocking_write::{data_wait, read_status, send_addr_and_wait, send_start_and_wait};
 use i2c::{Previous, send_stop};
-use registers::{Bits, Outcome, Progress, Source, modify_cr1, read_data};
-use timed::{busy_wait_flag, busy_wait_stop};
-use units::Setup;
+use registers::{Awaited, Bits, Bus, Stop};
+use timed::busy_wait;
+
+// The wait until STOP is sent.
+#[inline(always)]
+fn stop_wait(bus: &mut Bus) -> Result<(), Stop>
+    ensures { Does (stop_wait bus.old.setup ∷ []) bus.old bus.new result }
+{
+    let limit = bus.setup.data_limit;
+    busy_wait(bus, Awaited::Stop, limit)
+}
 
 // STOP, and the wait until it is sent.
-fn close(readings: &[u32], log: &mut [u32], progress: Progress, setup: Setup) -> Outcome
-    ensures { DoesWith setup (close setup) readings log progress result }
+#[inline(always)]
+fn close(bus: &mut Bus) -> Result<(), Stop>
+    ensures { Does (close bus.old.setup) bus.old bus.new result }
 {
-    let a = send_stop(readings, log, progress);
-    let Outcome::Well(next) = a else {
-        return a;
-    };
-    busy_wait_stop(readings, log, next, setup.data_limit)
+    send_stop(bus)?;
+    stop_wait(bus)
+}
+
+// A timed wait of a read. A NoAcknowledge sets no STOP.
+#[inline(always)]
+fn read_wait(bus: &mut Bus, flag: u32) -> Result<(), Stop>
+    requires { waited_flag flag ≡ true }
+    ensures { Does (read_wait bus.old.setup flag ∷ []) bus.old bus.new result }
+{
+    data_wait(bus, flag)
 }
 
 // The next byte of a read.
-fn receive(
-    readings: &[u32],
-    log: &mut [u32],
-    rx: &mut [u8],
-    progress: Progress,
-    setup: Setup,
-) -> Outcome
-    requires { progress.got ≤ progress.used }
-    ensures { Receives setup (receive setup) readings log rx progress result }
+#[inline(always)]
+fn receive(bus: &mut Bus) -> Result<(), Stop>
+    ensures { Does (receive bus.old.setup) bus.old bus.new result }
 {
-    let a = busy_wait_flag(
-        readings,
-        log,
-        progress,
-        registers::RXNE,
-        Source::Data,
-        setup.data_limit,
-    );
-    let Outcome::Well(next) = a else {
-        return a;
-    };
-    read_data(readings, log, rx, next)
+    read_wait(bus, registers::RXNE)?;
+    bus.read_data()
 }
 
 // The end of a read.
-fn finish_read(readings: &[u32], log: &mut [u32], progress: Progress, setup: Setup) -> Outcome
-    ensures { DoesWith setup (finish_read setup) readings log progress result }
+#[inline(always)]
+fn finish_read(bus: &mut Bus) -> Result<(), Stop>
+    ensures { Does (finish_read bus.old.setup) bus.old bus.new result }
 {
-    let a = busy_wait_stop(readings, log, progress, setup.data_limit);
-    let Outcome::Well(next) = a else {
-        return a;
-    };
-    modify_cr1(readings, log, next, Bits(registers::ACK, 0), Bits(0, 0))
+    stop_wait(bus)?;
+    bus.modify_cr1(Bits(registers::ACK, 0), Bits(0, 0))
 }
 
 // One byte: NACK, and STOP before it comes.
-fn one_ready(readings: &[u32], log: &mut [u32], progress: Progress) -> Outcome
-    ensures { Does one_ready readings log progress result }
+#[inline(always)]
+fn one_ready(bus: &mut Bus) -> Result<(), Stop>
+    ensures { Does one_ready bus.old bus.new result }
 {
-    let a = modify_cr1(readings, log, progress, Bits(0, 0), Bits(registers::ACK, 0));
-    let Outcome::Well(progress1) = a else {
-        return a;
-    };
-    let b = read_status(readings, log, progress1);
-    let Outcome::Well(progress2) = b else {
-        return b;
-    };
-    send_stop(readings, log, progress2)
+    bus.modify_cr1(Bits(0, 0), Bits(registers::ACK, 0))?;
+    read_status(bus)?;
+    send_stop(bus)
 }
 
 // A read of one byte, once the address is sent.
-fn read_one(
-    readings: &[u32],
-    log: &mut [u32],
-    rx: &mut [u8],
-    progress: Progress,
-    setup: Setup,
-) -> Outcome
-    requires { progress.got ≤ progress.used }
-    ensures { Receives setup (read_one setup) readings log rx progress result }
+#[inline(always)]
+fn read_one(bus: &mut Bus) -> Result<(), Stop>
+    ensures { Does (read_one bus.old.setup) bus.old bus.new result }
 {
-    let a = one_ready(readings, log, progress);
-    let Outcome::Well(progress1) = a else {
-        return a;
-    };
-    let b = receive_bytes(readings, log, rx, progress1, setup, 1);
-    let Outcome::Well(progress2) = b else {
-        return b;
-    };
-    finish_read(readings, log, progress2, setup)
+    one_ready(bus)?;
+    receive(bus)?;
+    finish_read(bus)
 }
 
 // Two bytes: POS, then NACK, and the wait until both are there.
-fn two_ready(readings: &[u32], log: &mut [u32], progress: Progress, setup: Setup) -> Outcome
-    ensures { DoesWith setup (two_ready setup) readings log progress result }
+#[inline(always)]
+fn two_ready(bus: &mut Bus) -> Result<(), Stop>
+    ensures { Does (two_ready bus.old.setup) bus.old bus.new result }
 {
-    let a = modify_cr1(
-        readings,
-        log,
-        progress,
-        Bits(registers::POS, registers::ACK),
-        Bits(0, 0),
-    );
-    let Outcome::Well(progress1) = a else {
-        return a;
-    };
-    let b = read_status(readings, log, progress1);
-    let Outcome::Well(progress2) = b else {
-        return b;
-    };
-    let c = modify_cr1(
-        readings,
-        log,
-        progress2,
-        Bits(0, 0),
-        Bits(registers::ACK, 0),
-    );
-    let Outcome::Well(progress3) = c else {
-        return c;
-    };
-    busy_wait_flag(
-        readings,
-        log,
-        progress3,
-        registers::BTF,
-        Source::Data,
-        setup.data_limit,
-    )
+    bus.modify_cr1(Bits(registers::POS, registers::ACK), Bits(0, 0))?;
+    read_status(bus)?;
+    bus.modify_cr1(Bits(0, 0), Bits(registers::ACK, 0))?;
+    read_wait(bus, registers::BTF)
 }
 
 // STOP, and both bytes.
-fn two_bytes(readings: &[u32], log: &mut [u32], rx: &mut [u8], progress: Progress) -> Outcome
-    requires { progress.got ≤ progress.used }
-    ensures { (s : Setup) → Receives s two_bytes readings log rx progress result }
+#[inline(always)]
+fn two_bytes(bus: &mut Bus) -> Result<(), Stop>
+    ensures { Does two_bytes bus.old bus.new result }
 {
-    let a = send_stop(readings, log, progress);
-    let Outcome::Well(progress1) = a else {
-        return a;
-    };
-    let b = read_data(readings, log, rx, progress1);
-    let Outcome::Well(progress2) = b else {
-        return b;
-    };
-    read_data(readings, log, rx, progress2)
+    send_stop(bus)?;
+    bus.read_data()?;
+    bus.read_data()
 }
 
 // The end of a read of two bytes.
-fn two_end(readings: &[u32], log: &mut [u32], progress: Progress, setup: Setup) -> Outcome
-    ensures { DoesWith setup (two_end setup) readings log progress result }
+#[inline(always)]
+fn two_end(bus: &mut Bus) -> Result<(), Stop>
+    ensures { Does (two_end bus.old.setup) bus.old bus.new result }
 {
-    let a = busy_wait_stop(readings, log, progress, setup.data_limit);
-    let Outcome::Well(progress1) = a else {
-        return a;
-    };
-    let b = modify_cr1(
-        readings,
-        log,
-        progress1,
-        Bits(0, 0),
-        Bits(registers::POS, registers::ACK),
-    );
-    let Outcome::Well(progress2) = b else {
-        return b;
-    };
-    modify_cr1(
-        readings,
-        log,
-        progress2,
-        Bits(registers::ACK, 0),
-        Bits(0, 0),
-    )
+    stop_wait(bus)?;
+    bus.modify_cr1(Bits(0, 0), Bits(registers::POS, registers::ACK))?;
+    bus.modify_cr1(Bits(registers::ACK, 0), Bits(0, 0))
 }
 
 // A read of two bytes, once the address is sent.
-fn read_two(
-    readings: &[u32],
-    log: &mut [u32],
-    rx: &mut [u8],
-    progress: Progress,
-    setup: Setup,
-) -> Outcome
-    requires { progress.got ≤ progress.used }
-    ensures { Receives setup (read_two setup) readings log rx progress result }
+#[inline(always)]
+fn read_two(bus: &mut Bus) -> Result<(), Stop>
+    ensures { Does (read_two bus.old.setup) bus.old bus.new result }
 {
-    let a = two_ready(readings, log, progress, setup);
-    let Outcome::Well(progress1) = a else {
-        return a;
-    };
-    let b = two_bytes(readings, log, rx, progress1);
-    let Outcome::Well(progress2) = b else {
-        return b;
-    };
-    two_end(readings, log, progress2, setup)
+    two_ready(bus)?;
+    two_bytes(bus)?;
+    two_end(bus)
 }
 
 // So many bytes of a read, one after the other.
-fn receive_bytes(
-    readings: &[u32],
-    log: &mut [u32],
-    rx: &mut [u8],
-    progress: Progress,
-    setup: Setup,
-    count: usize,
-) -> Outcome
-    requires { progress.got ≤ progress.used }
-    ensures { Receives setup (receive_bytes setup count) readings log rx progress result }
+#[inline(always)]
+fn receive_bytes(bus: &mut Bus, count: usize) -> Result<(), Stop>
+    ensures { Does (receive_bytes bus.old.setup count) bus.old bus.new result }
 {
-    let mut progress = progress;
-    let mut i: usize = 0;
-    while i < count {
-        let o = receive(readings, log, rx, progress, setup);
-        let Outcome::Well(next) = o else {
-            return o;
-        };
-        progress = next;
-        i += 1;
+    for _ in 0..count {
+        receive(bus)?;
     }
-    Outcome::Well(progress)
+    Ok(())
 }
 
 // The third last byte: NACK before it is taken.
-fn third_last(
-    readings: &[u32],
-    log: &mut [u32],
-    rx: &mut [u8],
-    progress: Progress,
-    setup: Setup,
-) -> Outcome
-    requires { progress.got ≤ progress.used }
-    ensures { Receives setup (third_last setup) readings log rx progress result }
+#[inline(always)]
+fn third_last(bus: &mut Bus) -> Result<(), Stop>
+    ensures { Does (third_last bus.old.setup) bus.old bus.new result }
 {
-    let a = busy_wait_flag(
-        readings,
-        log,
-        progress,
-        registers::BTF,
-        Source::Data,
-        setup.data_limit,
-    );
-    let Outcome::Well(progress1) = a else {
-        return a;
-    };
-    let b = modify_cr1(
-        readings,
-        log,
-        progress1,
-        Bits(0, 0),
-        Bits(registers::ACK, 0),
-    );
-    let Outcome::Well(progress2) = b else {
-        return b;
-    };
-    read_data(readings, log, rx, progress2)
+    read_wait(bus, registers::BTF)?;
+    bus.modify_cr1(Bits(0, 0), Bits(registers::ACK, 0))?;
+    bus.read_data()
 }
 
 // The second last byte: STOP before it is taken.
-fn second_last(readings: &[u32], log: &mut [u32], rx: &mut [u8], progress: Progress) -> Outcome
-    requires { progress.got ≤ progress.used }
-    ensures { (s : Setup) → Receives s second_last readings log rx progress result }
+#[inline(always)]
+fn second_last(bus: &mut Bus) -> Result<(), Stop>
+    ensures { Does second_last bus.old bus.new result }
 {
-    let a = send_stop(readings, log, progress);
-    let Outcome::Well(next) = a else {
-        return a;
-    };
-    read_data(readings, log, rx, next)
+    send_stop(bus)?;
+    bus.read_data()
 }
 
 // The last three bytes.
-fn last_three(
-    readings: &[u32],
-    log: &mut [u32],
-    rx: &mut [u8],
-    progress: Progress,
-    setup: Setup,
-) -> Outcome
-    requires { progress.got ≤ progress.used }
-    ensures { Receives setup (last_three setup) readings log rx progress result }
+#[inline(always)]
+fn last_three(bus: &mut Bus) -> Result<(), Stop>
+    ensures { Does (last_three bus.old.setup) bus.old bus.new result }
 {
-    let a = third_last(readings, log, rx, progress, setup);
-    let Outcome::Well(progress1) = a else {
-        return a;
-    };
-    let b = second_last(readings, log, rx, progress1);
-    let Outcome::Well(progress2) = b else {
-        return b;
-    };
-    let c = receive_bytes(readings, log, rx, progress2, setup, 1);
-    let Outcome::Well(progress3) = c else {
-        return c;
-    };
-    finish_read(readings, log, progress3, setup)
+    third_last(bus)?;
+    second_last(bus)?;
+    receive(bus)?;
+    finish_read(bus)
 }
 
 // ACK on, then SR1 and SR2.
-fn more_ready(readings: &[u32], log: &mut [u32], progress: Progress) -> Outcome
-    ensures { Does more_ready readings log progress result }
+#[inline(always)]
+fn more_ready(bus: &mut Bus) -> Result<(), Stop>
+    ensures { Does more_ready bus.old bus.new result }
 {
-    let a = modify_cr1(readings, log, progress, Bits(registers::ACK, 0), Bits(0, 0));
-    let Outcome::Well(next) = a else {
-        return a;
-    };
-    read_status(readings, log, next)
+    bus.modify_cr1(Bits(registers::ACK, 0), Bits(0, 0))?;
+    read_status(bus)
 }
 
 // A read of three bytes or more, once the address is sent. `count` leaves out the last three.
-fn read_more(
-    readings: &[u32],
-    log: &mut [u32],
-    rx: &mut [u8],
-    progress: Progress,
-    setup: Setup,
-    count: usize,
-) -> Outcome
-    requires { progress.got ≤ progress.used }
-    ensures { Receives setup (read_more setup count) readings log rx progress result }
+#[inline(always)]
+fn read_more(bus: &mut Bus, count: usize) -> Result<(), Stop>
+    ensures { Does (read_more bus.old.setup count) bus.old bus.new result }
 {
-    let a = more_ready(readings, log, progress);
-    let Outcome::Well(progress1) = a else {
-        return a;
-    };
-    let b = receive_bytes(readings, log, rx, progress1, setup, count);
-    let Outcome::Well(progress2) = b else {
-        return b;
-    };
-    last_three(readings, log, rx, progress2, setup)
+    more_ready(bus)?;
+    receive_bytes(bus, count)?;
+    last_three(bus)
 }
 
 // The arms of `read`, by its length.
-fn read_arm(
-    readings: &[u32],
-    log: &mut [u32],
-    rx: &mut [u8],
-    progress: Progress,
-    setup: Setup,
-    count: usize,
-) -> Outcome
-    requires { (progress.got ≤ progress.used) × (0 < count) }
-    ensures { Receives setup (read_arm setup count) readings log rx progress result }
+#[inline(always)]
+fn read_arm(bus: &mut Bus, count: usize) -> Result<(), Stop>
+    requires { 0 < count }
+    ensures { Does (read_arm bus.old.setup count) bus.old bus.new result }
 {
     match count {
-        1 => read_one(readings, log, rx, progress, setup),
-        2 => read_two(readings, log, rx, progress, setup),
-        _ => read_more(readings, log, rx, progress, setup, count - 3),
+        1 => read_one(bus),
+        2 => read_two(bus),
+        _ => read_more(bus, count - 3),
     }
 }
 
 // A read; an empty one does nothing.
-pub fn read(
-    readings: &[u32],
-    log: &mut [u32],
-    rx: &mut [u8],
-    progress: Progress,
-    setup: Setup,
-    addr: u16,
-    count: usize,
-) -> Outcome
-    requires { progress.got ≤ progress.used }
-    ensures { Receives setup (read_steps setup addr count) readings log rx progress result }
+#[inline(always)]
+pub fn read(bus: &mut Bus, addr: u16, count: usize) -> Result<(), Stop>
+    ensures { Does (read_steps bus.old.setup addr count) bus.old bus.new result }
 {
     if count == 0 {
-        return Outcome::Well(progress);
+        return Ok(());
     }
-    let a = send_start_and_addr(readings, log, progress, setup, addr, true);
-    let Outcome::Well(progress1) = a else {
-        return a;
-    };
-    read_arm(readings, log, rx, progress1, setup, count)
+    send_start_and_wait(bus)?;
+    send_addr_and_wait(bus, addr, true)?;
+    read_arm(bus, count)
 }
 
 // The end of a call: it closes where the last operation done was a write.
-pub fn close_after(
-    readings: &[u32],
-    log: &mut [u32],
-    progress: Progress,
-    setup: Setup,
-    previous: Previous,
-) -> Outcome
-    ensures { DoesWith setup (close_after setup previous) readings log progress result }
+#[inline(always)]
+pub fn close_after(bus: &mut Bus, previous: Previous) -> Result<(), Stop>
+    ensures { Does (close_after bus.old.setup previous) bus.old bus.new result }
 {
     match previous {
-        Previous::Write => close(readings, log, progress, setup),
-        _ => Outcome::Well(progress),
+        Previous::Write => close(bus),
+        _ => Ok(()),
     }
 }

@@ -5,17 +5,19 @@ use native.Mathlib.Omega.{arith}
 use mathlib.Core.Bool.{true, false}
 use mathlib.Core.Path.{◌≡◌, refl, sym, ◌∙◌}
 use mathlib.Core.List.{List, [], ◌∷◌, ◌++◌, append_assoc, append-nil}
+use Rattle.std.specs.Prelude.{Result, Ok, Err, ⊤}
 use Rattle.units.specs.declared.Setup.{Setup}
 use Rattle.registers.specs.declared.BusError.{BusError}
-use Rattle.registers.specs.declared.Progress.{Progress}
-use Rattle.registers.specs.declared.Outcome.{Outcome}
+use Rattle.registers.specs.declared.Source.{Source}
+use Rattle.registers.specs.declared.Stop.{Stop}
+use Rattle.registers.specs.declared.access.Bus.{Bus}
 use Rattle.registers.specs.Word.{with_bits, without_bits, one, none, STOP}
 use Rattle.registers.specs.Access.{CR1, wCR1, is_read}
 use Rattle.registers.specs.Machine.{Step, Handler, handle, stop_for, next}
-use Rattle.registers.specs.State.{State, After, Took, at, then, taking, resume, read, write, received, entry}
-use Rattle.registers.specs.Contract.{outcome, handled, Refines, Reaches, WaitsFrom}
+use Rattle.registers.specs.State.{State, After, Took, then, taking, resume, read, write, received, entry}
+use Rattle.registers.specs.Contract.{state, outcome, handled, Does, Reaches, Waits}
 use Rattle.registers.proofs.Laws.{read_law, write_law, write_unfailed, fail_law, done_law}
-use Rattle.registers.proofs.Steps.{NotWell}
+use Rattle.registers.proofs.Steps.{HandsOn, wait_fails, wait_cut}
 
 -- what stands after a failure does not matter, nor after STOP and a failure
 failed_same : (s : Setup) (e : BusError) (p p' : List Step) (st : State) → resume s (Step.fail e ∷ p) st ≡ resume s (Step.fail e ∷ p') st
@@ -51,20 +53,42 @@ stops_same s BusError.Crc = failed_same s _
 stops_same s BusError.ArbitrationLoss = failed_same s _
 
 -- a wait that did not go well ends all
-pub wait_stops : {s : Setup} {q₀ : List Step} {st₁ : State} {rs lg rx : List ℕ} {o : Outcome} → WaitsFrom s Handler.stops q₀ st₁ rs lg rx o
-    → (q₁ : List Step) {q : List Step} {st : State} → Reaches s q st (q₀ ++ q₁) st₁ → NotWell o → WaitsFrom s Handler.stops q st rs lg rx o
-wait_stops {s} {q₀} {st₁} {rs} {lg} {rx} {o} x q₁ g k = record { is = λ p. g.is p ∙ rw append_assoc (x.is (q₁ ++ p) ∙ go p o k) }
+pub wait_stops : {q₀ : List Step} {b₁ b₂ : Bus} {r : Result ⊤ Stop} → Waits Handler.stops q₀ b₁ b₂ r → (q₁ : List Step) {q : List Step} {b : Bus} → Reaches q b (q₀ ++ q₁) b₁
+    → {stop : Stop} {r' : Result ⊤ Stop} → r ≡ Err stop → HandsOn stop r' → Waits Handler.stops q b b₂ r'
+wait_stops {q₀} {b₁} {b₂} {r} x q₁ {q} {b} g {stop} {r'} = go stop r'
   where
-    go : (p : List Step) (o : Outcome) → NotWell o → handled s Handler.stops rs lg rx o (q₁ ++ p) ≡ handled s Handler.stops rs lg rx o p
-    go p (Outcome.Well b) k = absurd (k b refl)
-    go p (Outcome.Failed e b) k = stops_same s e (q₁ ++ p) p (at rs lg rx b)
-    go p (Outcome.CutShort c b) k = refl
+    go : (stop : Stop) (r' : Result ⊤ Stop) → r ≡ Err stop → HandsOn stop r' → Waits Handler.stops q b b₂ r'
+    go stop (Ok t) k h = absurd (let z : ◌≡◌ {A = ℕ} 0 1 = cc in omega arith)
+    go (Stop.Failed e) (Err stop) k h =
+        let y = wait_fails x q₁ g k in
+        rw h.1 (record { same = y.same; is = λ p. y.is p ∙ rw (append_assoc (handle b.setup Handler.stops e) q₁ p) (stops_same b.setup e (q₁ ++ p) p (state b₂)) })
+    go (Stop.CutShort c) (Err stop) k h = let y = wait_cut x q₁ g k in rw h.1 (record { same = y.same; is = λ p. y.is p })
 
--- the last thing done is a wait that failed, and a function that does what its handler says
-pub wait_handled : {s : Setup} {h : Handler} {q₀ : List Step} {st₁ : State} {rs lg rx : List ℕ} {o : Outcome} → WaitsFrom s h q₀ st₁ rs lg rx o
-    → {q : List Step} {st : State} → Reaches s q st q₀ st₁ → {e : BusError} {b : Progress} → o ≡ Outcome.Failed e b
-    → {rs' lg' rx' : List ℕ} {o' : Outcome} → Refines s (handle s h e) (at rs lg rx b) rs' lg' rx' o' → Refines s q st rs' lg' rx' o'
-wait_handled x g k y = record { is = λ p. g.is p ∙ x.is p ∙ rw k (y.is p) }
+-- a wait that failed, up to its handler; one that did not fail; one that its handler sets no STOP for
+pub to_handler : {h : Handler} {q : List Step} {b b' : Bus} {r : Result ⊤ Stop} → Waits h q b b' r → {e : BusError} → r ≡ Err (Stop.Failed e) → Reaches q b (handle b.setup h e) b'
+to_handler x k = record { same = x.same; is = λ p. x.is p ∙ rw k }
+
+pub unfailed : {h : Handler} {q : List Step} {b b' : Bus} {r : Result ⊤ Stop} → Waits h q b b' r → ((e : BusError) → r ≡ Err (Stop.Failed e) → ⊥) → Does q b b' r
+unfailed {h} {q} {b} {b'} {r} x n = record { same = x.same; is = λ p. x.is p ∙ go p r n }
+  where
+    go : (p : List Step) (r : Result ⊤ Stop) → ((e : BusError) → r ≡ Err (Stop.Failed e) → ⊥) → handled b.setup h (state b') r p ≡ then (outcome (state b') r) (resume b.setup p)
+    go p (Ok t) n = refl
+    go p (Err (Stop.Failed e)) n = absurd (n e refl)
+    go p (Err (Stop.CutShort c)) n = refl
+
+pub unhandled : {q : List Step} {b b' : Bus} {r : Result ⊤ Stop} → Waits Handler.stops q b b' r → ((n : Source) → r ≡ Err (Stop.Failed (BusError.NoAcknowledge n)) → ⊥) → Does q b b' r
+unfolding handle stop_for
+unhandled {q} {b} {b'} {r} x n = record { same = x.same; is = λ p. x.is p ∙ go p r n }
+  where
+    go : (p : List Step) (r : Result ⊤ Stop) → ((n : Source) → r ≡ Err (Stop.Failed (BusError.NoAcknowledge n)) → ⊥) → handled b.setup Handler.stops (state b') r p ≡ then (outcome (state b') r) (resume b.setup p)
+    go p (Ok t) n = refl
+    go p (Err (Stop.Failed BusError.Overrun)) n = fail_law b.setup _ p (state b')
+    go p (Err (Stop.Failed (BusError.NoAcknowledge m))) n = absurd (n m refl)
+    go p (Err (Stop.Failed BusError.Timeout)) n = fail_law b.setup _ p (state b')
+    go p (Err (Stop.Failed BusError.Bus)) n = fail_law b.setup _ p (state b')
+    go p (Err (Stop.Failed BusError.Crc)) n = fail_law b.setup _ p (state b')
+    go p (Err (Stop.Failed BusError.ArbitrationLoss)) n = fail_law b.setup _ p (state b')
+    go p (Err (Stop.CutShort c)) n = refl
 
 -- reads and writes do not fail
 pub record Unfailing (s : Setup) (q : List Step) : Type 0 where
@@ -90,10 +114,10 @@ put_unfailing {s} c v t {q} u = record { is = λ st e st' h. go st e st' (write 
     go st e st' (After.cut_short a st'') k h = let z : ◌≡◌ {A = ℕ} 0 1 = cc in omega arith
 
 -- so no error of theirs is left to a handler
-pub settles : {s : Setup} {h : Handler} {q : List Step} {st : State} {rs lg rx : List ℕ} {o : Outcome} → Unfailing s q → Refines s q st rs lg rx o → WaitsFrom s h q st rs lg rx o
-settles {s} {h} {q} {st} {rs} {lg} {rx} {o} u x = record { is = λ p. x.is p ∙ go p o (rw append-nil at (x.is [])) }
+pub settles : {h : Handler} {q : List Step} {b b' : Bus} {r : Result ⊤ Stop} → Unfailing b.setup q → Does q b b' r → Waits h q b b' r
+settles {h} {q} {b} {b'} {r} u x = record { same = x.same; is = λ p. x.is p ∙ go p r (rw append-nil at (x.is [])) }
   where
-    go : (p : List Step) (o : Outcome) → resume s q st ≡ then (outcome rs lg rx o) (resume s []) → then (outcome rs lg rx o) (resume s p) ≡ handled s h rs lg rx o p
-    go p (Outcome.Well b) k = refl
-    go p (Outcome.Failed e b) k = absurd (u.is st e (at rs lg rx b) k)
-    go p (Outcome.CutShort c b) k = refl
+    go : (p : List Step) (r : Result ⊤ Stop) → resume b.setup q (state b) ≡ then (outcome (state b') r) (resume b.setup []) → then (outcome (state b') r) (resume b.setup p) ≡ handled b.setup h (state b') r p
+    go p (Ok t) k = refl
+    go p (Err (Stop.Failed e)) k = absurd (u.is (state b) e (state b') k)
+    go p (Err (Stop.CutShort c)) k = refl

@@ -1,55 +1,32 @@
-// Parts of buffers, words out of bytes and entries out of a record, for the programs.
+// Words out of bytes, accesses out of a record, and runs on buffers of their own, for the programs.
 #![tactic(auto)]
 
-ghost use Rattle.std.specs.Prelude.{◌≡◌, length};
-ghost use Rattle.registers.specs.Access.{entries_in};
+ghost use Rattle.std.specs.Prelude.{◌≡◌, ◌++◌, ◌<◌, ◌/◌, length, min, take, MatchOption};
+ghost use Rattle.std.specs.Iterator.{at_most};
+ghost use Rattle.registers.specs.Access.{entries_in, entry_words};
 
-use engine::Counts;
+mod run;
+
 use registers::{ENTRY_WORDS, Entry};
+pub use run::{Difference, Expected, Run, counts_of};
 
-// The first `count` bytes.
-pub fn first_bytes(bytes: &[u8], count: usize) -> &[u8] {
-    if count <= bytes.len() {
-        return &bytes[..count];
-    }
-    bytes
+// The first `count` items, all where there are fewer.
+pub fn first<T>(items: &[T], count: usize) -> &[T]
+    ensures { result.now ≡ take count items.now }
+{
+    items.get(..count).unwrap_or(items)
 }
 
-// The first `count` words.
-pub fn first_words(words: &[u32], count: usize) -> &[u32] {
-    if count <= words.len() {
-        return &words[..count];
+// The bytes as words, low byte first, as far as there is room. A last word that is not whole is left out.
+pub fn to_words<'a>(bytes: &[u8], words: &'a mut [u32]) -> &'a [u32]
+    ensures { length result.now ≡ min (length bytes.now / 4) (length words.old) }
+{
+    let (chunks, _) = bytes.as_chunks::<4>();
+    let count = chunks.len().min(words.len());
+    for (word, chunk) in words.iter_mut().zip(chunks) {
+        *word = u32::from_le_bytes(*chunk);
     }
-    words
-}
-
-// The half word of two bytes, low byte first.
-fn half(low: u8, high: u8) -> u16 {
-    low as u16 + 256 * (high as u16)
-}
-
-// Word number `k` of the bytes, low byte first; 0 past the end.
-pub fn word_at(bytes: &[u8], k: usize) -> u32 {
-    if bytes.len() / 4 <= k {
-        return 0;
-    }
-    let at = 4 * k;
-    let low = half(bytes[at], bytes[at + 1]);
-    let high = half(bytes[at + 2], bytes[at + 3]);
-    low as u32 + 65536 * (high as u32)
-}
-
-// The bytes as words, as far as there is room. The answer is how many.
-pub fn to_words(bytes: &[u8], words: &mut [u32]) -> usize {
-    let mut k: usize = 0;
-    while k < words.len() {
-        if bytes.len() / 4 <= k {
-            return k;
-        }
-        words[k] = word_at(bytes, k);
-        k += 1;
-    }
-    k
+    &words[..count]
 }
 
 // How many entries a record holds.
@@ -59,38 +36,35 @@ pub fn entries_in(log: &[u32]) -> usize
     log.len() / ENTRY_WORDS
 }
 
-// The words of the first `count` entries of a record.
-pub fn first_entries(log: &[u32], count: usize) -> &[u32] {
-    if count <= entries_in(log) {
-        return &log[..ENTRY_WORDS * count];
-    }
-    log
+// The accesses of a record, in turn.
+#[derive(Drop)]
+pub struct RecordEntries<'a> {
+    words: &'a [u32],
 }
 
-// Entry number `k` of a record; zeros past the end.
-pub fn entry_at(log: &[u32], k: usize) -> Entry {
-    if entries_in(log) <= k {
-        return Entry { code: 0, value: 0 };
-    }
-    Entry {
-        code: log[ENTRY_WORDS * k],
-        value: log[ENTRY_WORDS * k + 1],
-    }
+// The accesses that a record's words are.
+pub fn entries(words: &[u32]) -> RecordEntries<'_>
+    ensures { result.words.now ≡ words.now }
+{
+    RecordEntries { words }
 }
 
-// The run with buffers of the case's lengths.
-pub fn run_on(
-    list: &[u8],
-    readings: &[u32],
-    rx: &mut [u8],
-    room: usize,
-    log: &mut [u32],
-    words: usize,
-) -> Counts {
-    if room <= rx.len() {
-        if words <= log.len() {
-            return engine::run(list, readings, &mut rx[..room], &mut log[..words]);
-        }
+impl<'a> Iterator for RecordEntries<'a> {
+    type Item = Entry;
+
+    ghost next_gives = { λ e found rest. MatchOption found (length e.words.now < 2)
+        (λ entry. e.words.now ≡ entry_words entry ++ rest.words.now) };
+
+    ghost remaining = { λ e. at_most (length e.words.now) };
+
+    fn next(&mut self) -> Option<Entry> {
+        let [code, value, rest @ ..] = self.words else {
+            return None;
+        };
+        self.words = rest;
+        Some(Entry {
+            code: *code,
+            value: *value,
+        })
     }
-    engine::run(list, readings, rx, log)
 }

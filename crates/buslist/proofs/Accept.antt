@@ -168,12 +168,15 @@ right_call l sum c e =
     record { width = f.0.0; first = eqb-true _ _ f.0.1; kind = f.1 }
 
 -- there is no kind above 7
-kind-most : (kind : ℕ) (os : List OperationEntry) → kind_right kind os ≡ true → kind ≤ 7
+pub no_kind : (kind : ℕ) (os : List OperationEntry) → 7 < kind → kind_right kind os ≡ false
 unfolding kind_right
+no_kind kind os h =
+    let other : (k : ℕ) → leb k 7 ≡ true → eqb kind k ≡ false = λ k q. ne_eqb kind k (λ p. omega (arith, leb-true k 7 q)) in
+    simp other
+
+kind-most : (kind : ℕ) (os : List OperationEntry) → kind_right kind os ≡ true → kind ≤ 7
 kind-most kind os e =
-    let other : 7 < kind → (k : ℕ) → leb k 7 ≡ true → eqb kind k ≡ false =
-    λ h k q. ne_eqb kind k (λ p. omega (arith, leb-true k 7 q)) in
-    let none : 7 < kind → ⊥ = λ h. false≢true (simp (other h) at e) in
+    let none : 7 < kind → ⊥ = λ h. false≢true (sym (no_kind kind os h) ∙ e) in
     omega arith
 
 -- m + n entries: m of them, and n

@@ -11,12 +11,11 @@ use borrow.Author.Tests.{eqb-true, eqb-false}
 use lib.ListN.{length, length-take, length-drop, take, drop}
 use lib.Seq.{drop-drop, take-nil}
 use lib.Dec.{eqb}
-use Rattle.buslist.specs.declared.CallEntry.{CallEntry}
 use Rattle.buslist.specs.declared.OperationEntry.{OperationEntry}
-use Rattle.buslist.specs.Table.{operation_count, data_bytes, data_offset, operation_at, entries, operations_of}
+use Rattle.buslist.specs.Table.{operation_count, data_bytes, data_offset, operation_at, entries}
 use Rattle.buslist.specs.Form.{write_direction, written, operation_right, operations_right}
 use Rattle.buslist.specs.Refusal.{longest_operation, refusal}
-use Rattle.buslist.specs.Meaning.{Operation, write, read, empty, bytes_of, operation_of, call_of}
+use Rattle.buslist.specs.Meaning.{Operation, write, read, empty, bytes_of, operation_of}
 use Rattle.buslist.specs.Combined.{dropped, gather, joined, combined, read_then_write}
 use Rattle.buslist.specs.Next.{operations_from, joins, JoinsAt}
 use Rattle.buslist.proofs.Walk.{written_le, entries_step, entries_end, operations_right_step}
@@ -74,7 +73,7 @@ read_turns (suc m) (c ∷ cs) os t = refl
 -- The joined entry
 
 -- an entry with another length
-abbrev with_length : OperationEntry → ℕ → OperationEntry
+abbrev pub with_length : OperationEntry → ℕ → OperationEntry
 with_length o n = record { direction = o.direction; reserved = o.reserved; length = n; offset = o.offset }
 
 -- bytes that follow each other are one part of the list
@@ -278,7 +277,7 @@ mutual
   comes_after_read m (read (suc n) ∷ os) = comes_after_read (m + suc n) os
 
 -- so it is in combined operations
-comes_combined : (os : List Operation) → read_then_write (combined os) ≡ comes false os
+pub comes_combined : (os : List Operation) → read_then_write (combined os) ≡ comes false os
 unfolding joined dropped read_then_write comes
 comes_combined [] = refl
 comes_combined (write [] ∷ os) = comes_combined os
@@ -311,14 +310,8 @@ entry_is_write l o = go (write_direction o)
     go true = refl
     go false = refl
 
--- at operation j of those up to the end
-pub comes_step : (l : List ℕ) (r : Bool) (j end : ℕ) {o : OperationEntry} → j < end → o ≡ operation_at l j
-    → let full = not (empty (operation_of l o)) in let writes = eqb o.direction 0 in
-    comes r (operations_from l j end) ≡ cond (full && writes && r) true (comes (r || full && not writes) (operations_from l (j + 1) end))
-comes_step l r j end {o} h e = rw (entries_step (operation_at l) j end h, ← e, comes_cons r (operation_of l o), entry_is_write l o)
-
--- in the operations of a call
-pub comes_call : (l : List ℕ) (c : CallEntry) → read_then_write (combined (call_of l c).operations) ≡ comes false (operations_from l c.first (c.first + c.count))
-comes_call l c =
-    let e : c.first + c.count - c.first ≡ c.count = omega arith in
-    comes_combined (map (operation_of l) (operations_of l c)) ∙ rw e
+-- at the first of some entries
+pub comes_entry : (l : List ℕ) (r : Bool) (o : OperationEntry) (os : List OperationEntry)
+    → let full = not (empty (operation_of l o)) in let writes = write_direction o in
+    comes r (map (operation_of l) (o ∷ os)) ≡ cond (full && writes && r) true (comes (r || full && not writes) (map (operation_of l) os))
+comes_entry l r o os = rw (comes_cons r (operation_of l o), entry_is_write l o)

@@ -1,3 +1,4 @@
+pub mod Choice
 pub mod Walk
 pub mod Accept
 pub mod Joining

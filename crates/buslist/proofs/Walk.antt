@@ -1,18 +1,16 @@
--- One step of each walk over a table, as a loop takes it: at entry j of n.
+-- The steps of walks over a table.
 -- Assumes nothing.
 use Prim.Native.Nat.{ℕ, zero, suc, ◌+◌, ◌-◌, ◌≤◌, ◌<◌}
-use mathlib.Core.Path.{◌≡◌, refl}
+use mathlib.Core.Path.{◌≡◌, refl, ap}
 use mathlib.Core.List.{List, [], ◌∷◌}
 use mathlib.Core.Bool.{Bool, true, false, cond, ◌&&◌, and-true, and-false}
 use native.Mathlib.Omega.{arith}
 use lib.ListN.{length, get_or-eq_default}
 use lib.Dec.{eqb, eqb-suc-suc, eqb-suc-zero}
-use Rattle.buslist.specs.declared.CallEntry.{CallEntry}
 use Rattle.buslist.specs.declared.OperationEntry.{OperationEntry}
 use Rattle.buslist.specs.Bytes.{byte, half, word}
 use Rattle.buslist.specs.Table.{entries}
-use Rattle.buslist.specs.Form.{write_direction, read_direction, written, operation_right, operations_right, has_directions, call_right, calls_right}
-use Rattle.buslist.specs.Refusal.{any, received, all_received}
+use Rattle.buslist.specs.Form.{write_direction, written, operation_right, operations_right, has_directions}
 
 -- past the end every number is 0
 pub byte_past : (l : List ℕ) (i : ℕ) → length l ≤ i → byte l i ≡ 0
@@ -35,10 +33,6 @@ pub written_le : (o : OperationEntry) → written o ≤ o.length
 unfolding written
 written_le o = cond_le (write_direction o) o.length
 
-pub received_le : (o : OperationEntry) → received o ≤ o.length
-unfolding received
-received_le o = cond_le (read_direction o) o.length
-
 module _ {A : Type 0} (entry : ℕ → A) (j n : ℕ) where
   pub entries_step : j < n → entries entry j (n - j) ≡ entry j ∷ entries entry (j + 1) (n - (j + 1))
   unfolding entries
@@ -52,34 +46,24 @@ module _ {A : Type 0} (entry : ℕ → A) (j n : ℕ) where
       let e : n - j ≡ 0 = omega arith in
       rw e
 
-module _ {A : Type 0} (test : A → Bool) (entry : ℕ → A) (j n : ℕ) where
-  pub any_here : j < n → test (entry j) ≡ true → any test (entries entry j (n - j)) ≡ true
-  unfolding any
-  any_here h t = rw (entries_step entry j n h, t)
+pub length-entries : {A : Type 0} (entry : ℕ → A) (j n : ℕ) → length (entries entry j n) ≡ n
+unfolding entries
+length-entries entry j zero = refl
+length-entries entry j (suc n) = ap suc (length-entries entry (j + 1) n)
 
-  pub any_later : j < n → test (entry j) ≡ false → any test (entries entry j (n - j)) ≡ any test (entries entry (j + 1) (n - (j + 1)))
-  unfolding any
-  any_later h t = rw (entries_step entry j n h, t)
+-- the entries under the numbers of a range, as it gives one and when it is spent
+module _ {A : Type 0} (entry : ℕ → A) where
+  pub entries_taken : (j n k m : ℕ) {x : A} → 0 < n - j → k ≡ j + 1 → m ≡ n → x ≡ entry j → entries entry j (n - j) ≡ x ∷ entries entry k (m - k)
+  entries_taken j n k m h i e x = rw (x, i, e) (entries_step entry j n (omega arith))
 
-  pub any_none : n ≤ j → any test (entries entry j (n - j)) ≡ false
-  unfolding any
-  any_none h = rw (entries_end entry j n h)
+  pub entries_spent : (j n : ℕ) → n - j ≡ 0 → entries entry j (n - j) ≡ []
+  entries_spent j n h = entries_end entry j n (omega arith)
 
-module _ (entry : ℕ → OperationEntry) (j n : ℕ) (h : j < n) where
-  pub operations_right_step : (total sum : ℕ)
-      → operations_right total sum (entries entry j (n - j))
-      ≡ (operation_right sum (entry j) && operations_right total (sum + written (entry j)) (entries entry (j + 1) (n - (j + 1))))
-  unfolding operations_right
-  operations_right_step total sum = rw (entries_step entry j n h)
-
-  pub all_received_step : all_received (entries entry j (n - j)) ≡ received (entry j) + all_received (entries entry (j + 1) (n - (j + 1)))
-  unfolding all_received
-  all_received_step = rw (entries_step entry j n h)
-
-pub calls_right_step : (l : List ℕ) (entry : ℕ → CallEntry) (sum k n : ℕ) → k < n
-    → calls_right l sum (entries entry k (n - k)) ≡ (call_right l sum (entry k) && calls_right l (sum + (entry k).count) (entries entry (k + 1) (n - (k + 1))))
-unfolding calls_right
-calls_right_step l entry sum k n h = rw (entries_step entry k n h)
+pub operations_right_step : (entry : ℕ → OperationEntry) (j n : ℕ) → j < n → (total sum : ℕ)
+    → operations_right total sum (entries entry j (n - j))
+    ≡ (operation_right sum (entry j) && operations_right total (sum + written (entry j)) (entries entry (j + 1) (n - (j + 1))))
+unfolding operations_right
+operations_right_step entry j n h total sum = rw (entries_step entry j n h)
 
 -- the directions of n operations, for one and for two
 pub one-direction : (entry : ℕ → OperationEntry) (d j n : ℕ) → has_directions (d ∷ []) (entries entry j n) ≡ (eqb n 1 && eqb (entry j).direction d)

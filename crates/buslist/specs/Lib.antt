@@ -1,5 +1,8 @@
 pub mod Bytes
 pub mod Table
+pub mod Starts
+pub mod Kind
+pub mod Entries
 pub mod Form
 pub mod Meaning
 pub mod Combined

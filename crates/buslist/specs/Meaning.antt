@@ -2,6 +2,8 @@
 use Rattle.std.specs.Prelude.{ℕ, zero, suc, ◌+◌, List, [], ◌∷◌, map, Bool, true, false, cond, take, drop, eqb, leb}
 use Rattle.buslist.specs.declared.Address.{Address}
 use Rattle.buslist.specs.declared.CallEntry.{CallEntry}
+use Rattle.buslist.specs.declared.Engine.{Engine as EngineName}
+use Rattle.buslist.specs.declared.Engine.TheVariants.{Polling, Blocking}
 use Rattle.buslist.specs.declared.OperationEntry.{OperationEntry}
 use Rattle.buslist.specs.Table.{data_offset, operations_of, calls}
 use Rattle.buslist.specs.Form.{write_direction}
@@ -20,6 +22,11 @@ empty (read (suc n)) = false
 
 pub data Engine : Type 0 where
   polling blocking : Engine
+
+-- the engine that the code's enum names
+abbrev pub engine_named : EngineName → Engine
+engine_named Polling = polling
+engine_named Blocking = blocking
 
 -- kinds 0 to 3 are polling, 4 to 7 blocking
 unfoldable pub engine_of : ℕ → Engine

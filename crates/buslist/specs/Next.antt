@@ -2,14 +2,14 @@
 use Rattle.std.specs.Prelude.{ℕ, ◌-◌, ◌≤◌, ◌<◌, ◌≡◌, Bool, ◌||◌, List, [], ◌∷◌, ◌++◌, map, eqb}
 use Rattle.buslist.specs.declared.OperationEntry.{OperationEntry}
 use Rattle.buslist.specs.declared.Joined.{Joined}
-use Rattle.buslist.specs.Table.{operation_count, operation_offset, operation_at, entries}
+use Rattle.buslist.specs.Table.{operation_count, operation_at, entries}
 use Rattle.buslist.specs.Meaning.{Operation, empty, operation_of}
 use Rattle.buslist.specs.Combined.{dropped, combined}
 use Rattle.buslist.specs.Refusal.{refusal}
 
--- operation j comes before this end, in the table of an accepted list that begins at `start`
-abbrev pub OfAccepted : List ℕ → (start j end : ℕ) → Type 0
-OfAccepted l start j end = (start ≡ operation_offset l) × (j < end) × (end ≤ operation_count l) × ((rx : ℕ) × (refusal l rx ≡ 0))
+-- operation j comes before this end, in the table of an accepted list
+abbrev pub OfAccepted : List ℕ → (j end : ℕ) → Type 0
+OfAccepted l j end = (j < end) × (end ≤ operation_count l) × ((rx : ℕ) × (refusal l rx ≡ 0))
 
 -- the operations from number j on, up to the end
 abbrev pub operations_from : List ℕ → ℕ → ℕ → List Operation

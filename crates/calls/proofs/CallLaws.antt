@@ -4,84 +4,76 @@ use Prim.Native.Nat.{ℕ, zero, suc, ◌+◌, ◌-◌, ◌≤◌, ◌<◌}
 use native.Mathlib.Omega.{arith}
 use native.Mathlib.Nat.{add-zero, zero-add, add_assoc, sub-zero}
 use mathlib.Core.Bool.{Bool, true, false, cond}
-use mathlib.Core.Path.{◌≡◌, refl, ◌∙◌}
+use mathlib.Core.Path.{◌≡◌, refl, sym, ap, subst, ◌∙◌}
 use mathlib.Core.List.{List, [], ◌∷◌, ◌++◌, map, append-nil}
 use lib.Dec.{eqb}
 use borrow.Author.Tests.{eq-eqb, ne_eqb}
+use Rattle.std.specs.Borrow.{MutBor}
+use Rattle.std.specs.Prelude.{Result, Ok, Err, ⊤}
 use Rattle.units.specs.declared.Setup.{Setup}
 use Rattle.buslist.specs.declared.Address.{Address}
 use Rattle.buslist.specs.declared.OperationEntry.{OperationEntry}
 use Rattle.buslist.specs.declared.CallEntry.{CallEntry}
 use Rattle.buslist.specs.declared.Joined.{Joined}
-use Rattle.buslist.specs.Meaning.{Operation, Engine, engine_of, is_polling, address_number, operation_of, is_ten, address_of, call_of, calls_of}
+use Rattle.buslist.specs.Form.{write_direction}
+use Rattle.buslist.specs.Meaning.{Operation, bytes_of, Engine, engine_of, address_number, operation_of, is_ten, address_of, call_of, calls_of}
 use Rattle.buslist.specs.Combined.{dropped, joined, combined}
 use Rattle.buslist.specs.Next.{operations_from, JoinsAt}
 use Rattle.buslist.specs.Table.{call_count, call_at, operation_at, entries}
 use Rattle.buslist.proofs.Walk.{entries_step, entries_end}
 use Rattle.registers.specs.declared.Progress.{Progress}
-use Rattle.registers.specs.declared.Outcome.{Outcome}
-use Rattle.registers.specs.Machine.{Step}
+use Rattle.registers.specs.declared.Stop.{Stop}
+use Rattle.registers.specs.declared.access.Bus.{Bus}
+use Rattle.registers.specs.Machine.{Step, bring_up}
 use Rattle.registers.specs.State.{State, at, resume, then}
-use Rattle.registers.specs.Contract.{Refines, outcome}
+use Rattle.registers.specs.Contract.{state, Same, outcome, Does, Reaches, Starts}
 use Rattle.registers.proofs.Laws.{done_law}
-use Rattle.registers.proofs.Steps.{NotWell}
+use Rattle.registers.proofs.Steps.{NotOk, rewritten, call_step, call_fails, call_last}
 use Rattle.i2c.specs.declared.Previous.{Previous}
 use Rattle.i2c.specs.Polling.{polling_steps, is_last}
 use Rattle.blocking_write.specs.Write.{write_without_stop}
 use Rattle.blocking.specs.Blocking.{read_steps, done_last, blocking_steps, operation_steps as blocking_operation}
 use Rattle.calls.specs.Calls.{early, operations_steps, performed, steps_of}
-use Rattle.calls.specs.Whole.{operation_steps, moved, rest_steps, Takes, end_steps, Final, more_calls, after_calls, calls_run, final, Ends, Left}
+use Rattle.calls.specs.Whole.{operation_steps, entry_steps, moved, rest_steps, Takes, end_steps, more_calls, after_calls, calls_run, final, Ends, EndsCalls, Left}
 
 -- no call is done yet
 pub calls-start : {s : Setup} {cs : List (List Step)} {st : State} → Left s cs st 0 cs st
 calls-start = record { is = rw zero-add }
 
-module _ {s : Setup} {cs : List (List Step)} {st : State} {k : ℕ} {c : List Step} {cs' : List (List Step)} {st₁ : State}
-    (x : Left s cs st k (c ∷ cs') st₁) {rs lg rx : List ℕ} where
-  whole_call : {o : Outcome} → Refines s c st₁ rs lg rx o → resume s c st₁ ≡ then (outcome rs lg rx o) (resume s [])
-  whole_call y = rw append-nil at (y.is [])
+module _ {s : Setup} {cs : List (List Step)} {st : State} {k : ℕ} {c : List Step} {cs' : List (List Step)} {b b₁ : Bus}
+    (x : Left s cs st k (c ∷ cs') (state b)) (e : b.setup ≡ s) {r : Result ⊤ Stop} (y : Does c b b₁ r) where
+  whole_call : resume s c (state b) ≡ then (outcome (state b₁) r) (resume s [])
+  whole_call = rw (append-nil, e) at (y.is [])
 
   -- the call that does not end well stops the run
-  pub call_stops_run : {o : Outcome} → Refines s c st₁ rs lg rx o → NotWell o → Ends s cs st rs lg rx k o
+  pub call_stops_run : NotOk r → Ends s cs st (state b₁) k r
   unfolding calls_run
-  call_stops_run {o} y h = record { is = x.is ∙ go o (whole_call y) h }
+  call_stops_run h = record { is = x.is ∙ rw whole_call (go r h) }
     where
-      go : (o : Outcome) → resume s c st₁ ≡ then (outcome rs lg rx o) (resume s []) → NotWell o
-          → more_calls k (after_calls 1 (resume s c st₁) (calls_run s cs')) ≡ final rs lg rx k o
-      go (Outcome.Well b) e h = absurd (h b refl)
-      go (Outcome.Failed a b) e h = rw (e, add-zero)
-      go (Outcome.CutShort a b) e h = rw (e, add-zero)
+      go : (r : Result ⊤ Stop) → NotOk r → more_calls k (after_calls 1 (then (outcome (state b₁) r) (resume s [])) (calls_run s cs')) ≡ final (state b₁) k r
+      go (Ok t) h = absurd (h t refl)
+      go (Err (Stop.Failed a)) h = rw add-zero
+      go (Err (Stop.CutShort a)) h = rw add-zero
 
   -- the call that ends well leaves the calls after it
-  pub next_call : {b : Progress} {o : Outcome} → Refines s c st₁ rs lg rx o → o ≡ Outcome.Well b → Left s cs st (k + 1) cs' (at rs lg rx b)
+  pub next_call : {t : ⊤} → r ≡ Ok t → Left s cs st (k + 1) cs' (state b₁)
   unfolding calls_run
-  next_call {b} y e = record { is = x.is ∙ rw (whole_call y, e, done_law, add_assoc) }
+  next_call f = record { is = x.is ∙ rw (whole_call, f, done_law, add_assoc) }
 
 -- no call is left
-pub calls_end : {s : Setup} {cs : List (List Step)} {st : State} {k : ℕ} {rs lg rx : List ℕ} {b : Progress}
-    → Left s cs st k [] (at rs lg rx b) → Ends s cs st rs lg rx k (Outcome.Well b)
+pub calls_end : {s : Setup} {cs : List (List Step)} {st st₁ : State} {k : ℕ} {t : ⊤} → Left s cs st k [] st₁ → Ends s cs st st₁ k (Ok t)
 unfolding calls_run
 calls_end x = record { is = x.is ∙ rw add-zero }
 
--- an operation that is no write
-pub not_a_write : (l : List ℕ) (o : OperationEntry) → (o.direction ≡ 0 → ⊥) → operation_of l o ≡ Operation.read o.length
-unfolding operation_of
-not_a_write l o h = rw (ne_eqb _ _ h)
+-- an operation by its direction
+module _ (l : List ℕ) (o : OperationEntry) where
+  pub a_write : write_direction o ≡ true → operation_of l o ≡ Operation.write (bytes_of l o)
+  unfolding operation_of
+  a_write h = rw h
 
--- the engine of a call, by its test
-pub polling_call : (kind : ℕ) → is_polling (engine_of kind) ≡ true → engine_of kind ≡ Engine.polling
-polling_call kind = go (engine_of kind)
-  where
-    go : (e : Engine) → is_polling e ≡ true → e ≡ Engine.polling
-    go Engine.polling t = refl
-    go Engine.blocking t = let z : ◌≡◌ {A = ℕ} 0 1 = cc in absurd (omega arith)
-
-pub blocking_call : (kind : ℕ) → is_polling (engine_of kind) ≡ false → engine_of kind ≡ Engine.blocking
-blocking_call kind = go (engine_of kind)
-  where
-    go : (e : Engine) → is_polling e ≡ false → e ≡ Engine.blocking
-    go Engine.polling t = let z : ◌≡◌ {A = ℕ} 0 1 = cc in absurd (omega arith)
-    go Engine.blocking t = refl
+  pub not_a_write : write_direction o ≡ false → operation_of l o ≡ Operation.read o.length
+  unfolding operation_of
+  not_a_write h = rw h
 
 -- an address has the number that its entry has, whatever its width
 pub number_of_address : (c : CallEntry) → address_number (address_of c) ≡ c.address
@@ -202,19 +194,54 @@ pub left_rewritten : {s : Setup} {cs cs₁ cs₂ : List (List Step)} {st st₁ :
 left_rewritten e x = rw e at x
 
 -- the bring-up, before the calls
-module _ {s : Setup} {q : List Step} {st : State} {rs lg rx : List ℕ} {o : Outcome} (x : Refines s q st rs lg rx o) (f : State → Final) where
-  first_steps : resume s q st ≡ then (outcome rs lg rx o) (resume s [])
-  first_steps = rw append-nil at (x.is [])
+module _ {s : Setup} (cs : List (List Step)) {b b₁ : Bus} (e : b.setup ≡ s) {r : Result ⊤ Stop} (x : Does (bring_up b.setup) b b₁ r) where
+  first_steps : resume s (bring_up s) (state b) ≡ then (outcome (state b₁) r) (resume s [])
+  first_steps = rw (append-nil, e) at (x.is [])
 
-  -- it is cut short: the run ends there, before any call
-  pub first_stops : NotWell o → after_calls 0 (resume s q st) f ≡ final rs lg rx 0 o
-  first_stops h = rw first_steps (go o h)
+  -- it does not end well: the run ends there, before any call
+  pub first_stops : NotOk r → after_calls 0 (resume s (bring_up s) (state b)) (calls_run s cs) ≡ final (state b₁) 0 r
+  first_stops h = rw first_steps (go r h)
     where
-      go : (o : Outcome) → NotWell o → after_calls 0 (then (outcome rs lg rx o) (resume s [])) f ≡ final rs lg rx 0 o
-      go (Outcome.Well b) h = absurd (h b refl)
-      go (Outcome.Failed a b) h = refl
-      go (Outcome.CutShort a b) h = refl
+      go : (r : Result ⊤ Stop) → NotOk r → after_calls 0 (then (outcome (state b₁) r) (resume s [])) (calls_run s cs) ≡ final (state b₁) 0 r
+      go (Ok t) h = absurd (h t refl)
+      go (Err (Stop.Failed a)) h = refl
+      go (Err (Stop.CutShort a)) h = refl
 
   -- it is done: the run goes on with the calls
-  pub first_done : {b : Progress} → o ≡ Outcome.Well b → after_calls 0 (resume s q st) f ≡ f (at rs lg rx b)
-  first_done e = rw (first_steps, e, done_law, zero-add)
+  pub first_done : {t : ⊤} → r ≡ Ok t → after_calls 0 (resume s (bring_up s) (state b)) (calls_run s cs) ≡ calls_run s cs (state b₁)
+  first_done f = rw (first_steps, f, done_law, zero-add)
+
+-- a call that is done up to its operation j, with the setup of the run
+module _ {s : Setup} (l : List ℕ) (c : CallEntry) (previous : Previous) {j end : ℕ} {q : List Step} {b₀ b b₁ : Bus}
+    (g : Reaches q b₀ (rest_steps s c previous (operations_from l j end)) b) (e : b.setup ≡ s) {r : Result ⊤ Stop} where
+  -- the next operation
+  module _ {x : Joined} (t : Takes l c j end x) (y : Does (entry_steps b.setup c previous (eqb x.next end) (operation_of l x.operation)) b b₁ r) where
+    done : Does (entry_steps s c previous (eqb x.next end) (operation_of l x.operation)) b b₁ r
+    done = subst (λ (s : Setup). Does (entry_steps s c previous (eqb x.next end) (operation_of l x.operation)) b b₁ r) e y
+
+    pub next_operation : {u : ⊤} → r ≡ Ok u → Reaches q b₀ (rest_steps s c (moved (engine_of c.kind) previous (operation_of l x.operation)) (operations_from l x.next end)) b₁
+    next_operation h = call_step done _ (rewritten (t.first s previous) g) h
+
+    pub operation_stops : NotOk r → Does q b₀ b₁ r
+    operation_stops h = call_fails done _ (rewritten (t.first s previous) g) h
+
+  -- its end
+  pub end_of_call : end ≤ j → Does (end_steps b.setup (engine_of c.kind) previous) b b₁ r → Does q b₀ b₁ r
+  end_of_call h y =
+      call_last (rewritten (operations-done s l c previous j end h) g) (subst (λ (s : Setup). Does (end_steps s (engine_of c.kind) previous) b b₁ r) e y)
+
+-- the calls cs, from where the bus was, ended so
+pub record Stops (s : Setup) (cs : List (List Step)) (b b₁ : Bus) (k : ℕ) (r : Result ⊤ Stop) : Type 0 where
+  pub same : Same b b₁
+  pub ends : Ends s cs (state b) (state b₁) k r
+
+-- calls that ran over a bus on these parts left them so
+pub ends_calls : {s : Setup} (l : List ℕ) {readings : List ℕ} {log rx : MutBor (List ℕ)} {progress : Progress} {lg' rx' : List ℕ} {b b₁ : Bus} {k : ℕ} {r : Result ⊤ Stop}
+    → Starts s readings log rx progress b → Stops s (map (steps_of s) (calls_of l)) b b₁ k r → lg' ≡ b₁.log.now → rx' ≡ b₁.rx.now
+    → EndsCalls s l (at readings log.now rx.now progress) (at readings lg' rx' b₁.progress) (record { outcome = r; calls = k })
+ends_calls l {readings} y x f g =
+    let e : readings ≡ _ = sym (ap readings_of y.start) ∙ sym x.same.readings in
+    record { is = rw (← y.start, e, f, g) x.ends.is }
+  where
+    readings_of : State → List ℕ
+    readings_of (at rs lg rx b) = rs

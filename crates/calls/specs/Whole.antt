@@ -1,20 +1,21 @@
 -- The forms of the contracts of the run's inner functions: one operation of a call, the end of a call, and a whole run from a state, call by call.
-use Rattle.std.specs.Prelude.{ℕ, ◌+◌, ◌≤◌, ◌<◌, ◌≡◌, Bool, List, [], ◌∷◌, ◌++◌, map, eqb}
+use Rattle.std.specs.Prelude.{Result, ⊤, ℕ, ◌+◌, ◌≤◌, ◌<◌, ◌≡◌, Bool, List, [], ◌∷◌, ◌++◌, map, eqb}
 use Rattle.units.specs.declared.Setup.{Setup}
 use Rattle.buslist.specs.declared.Address.{Address}
 use Rattle.buslist.specs.declared.CallEntry.{CallEntry}
 use Rattle.buslist.specs.declared.Joined.{Joined}
 use Rattle.buslist.specs.Meaning.{Operation, Engine, polling, blocking, engine_of, address_number, operation_of, address_of, calls_of}
 use Rattle.buslist.specs.Next.{operations_from}
-use Rattle.registers.specs.declared.Progress.{Progress}
-use Rattle.registers.specs.declared.Outcome.{Outcome}
+use Rattle.registers.specs.declared.Stop.{Stop}
+use Rattle.registers.specs.declared.access.Bus.{Bus}
 use Rattle.registers.specs.Access.{well, failed, cut_number, number}
 use Rattle.registers.specs.Machine.{Step}
-use Rattle.registers.specs.State.{State, After, at, resume}
-use Rattle.registers.specs.Contract.{outcome_number, Slice, MutSlice}
+use Rattle.registers.specs.State.{State, After, resume}
+use Rattle.registers.specs.Contract.{outcome_number, state, Same}
 use Rattle.i2c.specs.declared.Previous.{Previous}
 use Rattle.i2c.specs.Polling.{direction, operation_steps as polling_operation}
 use Rattle.blocking.specs.Blocking.{done_last, close_after, operation_steps as blocking_operation}
+use Rattle.calls.specs.declared.Stopped.{Stopped}
 use Rattle.calls.specs.Calls.{early, operations_steps, performed, steps_of}
 
 -- one operation, with the operation before it and whether it is the last
@@ -52,10 +53,6 @@ unfoldable pub end_steps : Setup → Engine → Previous → List Step
 end_steps s polling previous = []
 end_steps s blocking previous = close_after s previous
 
--- nothing read, made or received as yet
-abbrev pub nothing_yet : Progress
-nothing_yet = record { used = 0; made = 0; got = 0 }
-
 -- how a run ends: its answer, the calls that ended well, and the state
 pub record Final : Type 0 where
   pub answer : ℕ
@@ -75,25 +72,22 @@ unfoldable pub calls_run : Setup → List (List Step) → State → Final
 calls_run s [] st = record { answer = number well; calls = 0; state = st }
 calls_run s (c ∷ cs) st = after_calls 1 (resume s c st) (calls_run s cs)
 
--- how far the run had come at an outcome
-abbrev pub progress_of : Outcome → Progress
-progress_of (Outcome.Well b) = b
-progress_of (Outcome.Failed e b) = b
-progress_of (Outcome.CutShort c b) = b
-
 -- a run that ended with this outcome after k calls
-abbrev pub final : List ℕ → List ℕ → List ℕ → ℕ → Outcome → Final
-final rs lg rx k o = record { answer = outcome_number o; calls = k; state = at rs lg rx (progress_of o) }
+abbrev pub final : State → ℕ → Result ⊤ Stop → Final
+final st k r = record { answer = outcome_number r; calls = k; state = st }
 
 -- the calls cs from st end so
-pub record Ends (s : Setup) (cs : List (List Step)) (st : State) (rs lg rx : List ℕ) (k : ℕ) (o : Outcome) : Type 0 where
-  pub is : calls_run s cs st ≡ final rs lg rx k o
+pub record Ends (s : Setup) (cs : List (List Step)) (st st' : State) (k : ℕ) (r : Result ⊤ Stop) : Type 0 where
+  pub is : calls_run s cs st ≡ final st' k r
 
--- the calls of a list end so, from the state that a function's parameters are
-abbrev pub RunsCalls : Setup → (list readings : Slice) (log rx : MutSlice) → Progress → ℕ → Outcome → Type 0
-RunsCalls s list readings log rx b k o =
-    Ends s (map (steps_of s) (calls_of list.entry.now)) (at readings.entry.now log.entry.now rx.entry.now b)
-    readings.entry.now log.exit.now rx.exit.now k o
+-- the calls of a list end so, from one state to another
+abbrev pub EndsCalls : Setup → List ℕ → State → State → Stopped → Type 0
+EndsCalls s list st st' r = Ends s (map (steps_of s) (calls_of list)) st st' r.calls r.outcome
+
+-- and from where the bus was to where it is
+pub record RunsCalls (list : List ℕ) (b b' : Bus) (r : Stopped) : Type 0 where
+  pub same : Same b b'
+  pub ends : EndsCalls b.setup list (state b) (state b') r
 
 -- after k calls, the calls cs' are left from st'
 pub record Left (s : Setup) (cs : List (List Step)) (st : State) (k : ℕ) (cs' : List (List Step)) (st' : State) : Type 0 where

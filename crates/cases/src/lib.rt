@@ -1,205 +1,191 @@
 // Hand-made cases as text, for the programs that run them: the text's words and numbers, and the bytes of a bus list.
 //
+//   = NAME N N            starts a case: its name, and two numbers whose meaning the program tells
 //   b N N ..  h N ..  w N ..   numbers of one, two and four bytes, low byte first
 //   x N                   the last eight bytes N more times
 //   z N                   N zero bytes
+//   !                     runs the case on what was read so far
 //
-// Blanks part the words, and '#' starts a comment to the line's end. A number is decimal, or hexadecimal after 0x.
+// A letter holds until the next letter, and a program may have more of them.
+// Blanks part the words, and '#' starts a comment to the line's end. A number is decimal, or hexadecimal after 0x, and
+// has at most 32 bits; of one that is too large for its letter the low bytes are taken.
 #![tactic(auto)]
 
-ghost use Rattle.std.specs.Prelude.{◌<◌};
+ghost use Rattle.std.specs.Prelude.{ℕ, List, Some, ◌≡◌, ◌↔◌, ◌+◌, ◌-◌, ◌^◌, ◌%◌, [], ◌∷◌, ◌++◌, length, take, replicate, codes, min, IsTrue, IsFalse, OnOk};
+ghost use Rattle.std.specs.Int.{to_le_bytes, w32};
+ghost use Rattle.cases.specs.declared.Letter.{Letter};
 
-use std::io;
+use std::alloc::{AllocError, Global};
+use std::io::ErrorKind;
+use std::{fmt, io};
 
-// A word of the text: the bytes from `from` up to `to`.
-#[derive(Clone, Copy)]
-pub struct Span {
-    pub from: usize,
-    pub to: usize,
+// The line without its comment.
+fn uncommented(line: &str) -> &str {
+    line.split_once('#').map_or(line, |(before, _)| before)
 }
 
-// Where the first word from `from` on starts, past blanks and comments.
-fn word_start(text: &[u8], from: usize) -> usize {
-    let mut at = from;
-    let mut comment = false;
-    while at < text.len() {
-        let b = text[at];
-        if b == b'\n' {
-            comment = false;
-        } else if b == b'#' {
-            comment = true;
-        } else if b > b' ' {
-            if !comment {
-                return at;
-            }
-        }
-        at += 1;
+// The number that a word spells. A word that spells none of 32 bits is an error.
+fn number(word: &str) -> io::Result<u32> {
+    match word.strip_prefix("0x") {
+        Some(digits) => u32::from_str_radix(digits, 16),
+        None => word.parse::<u32>(),
     }
-    at
+    .map_err(|_| io::Error::from(ErrorKind::InvalidData))
 }
 
-// Where the word that starts at `from` ends.
-fn word_end(text: &[u8], from: usize) -> usize {
-    let mut at = from;
-    while at < text.len() {
-        if text[at] <= b' ' {
-            return at;
-        }
-        at += 1;
-    }
-    at
+// What a program makes of the words of its cases.
+pub trait Case: Drop {
+    // What the numbers after a letter are.
+    type Letter: Copy;
+
+    // The bytes of its bus list.
+    ghost list: { Self → List ℕ };
+
+    // A case by the two numbers after its name, with nothing else read. What the numbers mean is the program's own.
+    fn new(alloc: Global, first: u32, second: u32) -> Self
+        ensures { list result ≡ [] };
+
+    // The letter that a word is. The numbers after a word that is none are left out. Which words are letters is the
+    // program's own, so there is no clause.
+    fn letter(word: &str) -> Option<Self::Letter>;
+
+    // The list keeps the bytes that it has. What a number adds is the program's own.
+    fn put(&mut self, letter: Self::Letter, number: u32) -> Result<(), AllocError>
+        ensures { OnOk result (take (length (list self.old)) (list self.new) ≡ list self.old) };
+
+    // Runs the case and prints it. The answer is whether it agrees, by what the program compares: there is no clause.
+    fn run(&self, rt: &impl Print, alloc: Global, name: &str) -> io::Result<bool>;
 }
 
-// The first word from `at` on.
-pub fn word(text: &[u8], at: usize) -> Span {
-    let from = word_start(text, at);
-    Span {
-        from,
-        to: word_end(text, from),
-    }
-}
-
-// The byte at `at`, a blank past the end.
-pub fn byte(text: &[u8], at: usize) -> u8 {
-    if at < text.len() { text[at] } else { b' ' }
-}
-
-// Whether a word that starts with this byte is a number.
-pub fn is_digit(b: u8) -> bool {
-    (b'0' <= b) & (b <= b'9')
-}
-
-// What a digit stands for, a hexadecimal one too; 0 for any other byte.
-fn digit(b: u8) -> usize
-    ensures { result < 16 }
-{
-    if b < b'0' {
-        return 0;
-    }
-    if b <= b'9' {
-        return (b - b'0') as usize;
-    }
-    if b < b'a' {
-        return 0;
-    }
-    if b > b'f' {
-        return 0;
-    }
-    (b - b'a') as usize + 10
-}
-
-// One digit more. Digits past what 32 bits can hold are dropped, so that nothing wraps.
-fn with_digit(n: usize, b: u8, hexadecimal: bool) -> usize {
-    if n >= 4294967296 {
-        return n;
-    }
-    if hexadecimal {
-        return n * 16 + digit(b);
-    }
-    n * 10 + digit(b)
-}
-
-// Whether the number that starts at `from` is hexadecimal.
-fn is_hexadecimal(text: &[u8], from: usize) -> bool {
-    if from < text.len() {
-        return byte(text, from + 1) == b'x';
-    }
-    false
-}
-
-// The number that a word spells. The 0x in front of a hexadecimal one counts as two zeros.
-pub fn number(text: &[u8], from: usize, to: usize) -> usize {
-    let hexadecimal = is_hexadecimal(text, from);
-    let mut n: usize = 0;
-    for at in from..to {
-        n = with_digit(n, byte(text, at), hexadecimal);
-    }
-    n
-}
-
-// One byte more in the list. A full list stays as it is.
-pub fn push(list: &mut [u8], size: usize, b: u8) -> usize {
-    if size < list.len() {
-        list[size] = b;
-        return size + 1;
-    }
-    size
-}
-
-// The low `width` bytes of `n`, low byte first.
-fn push_number(list: &mut [u8], size: usize, n: usize, width: usize) -> usize {
-    let mut end = size;
-    let mut rest = n;
-    for _ in 0..width {
-        end = push(list, end, (rest % 256) as u8);
-        rest = rest / 256;
-    }
-    end
-}
-
-// `count` zero bytes.
-fn push_zeros(list: &mut [u8], size: usize, count: usize) -> usize {
-    let mut end = size;
-    for _ in 0..count {
-        end = push(list, end, 0);
-    }
-    end
-}
-
-// The byte that stands eight places back, once more.
-fn push_again(list: &mut [u8], size: usize) -> usize {
-    if size < 8 {
-        return size;
-    }
-    let b = byte(list, size - 8);
-    push(list, size, b)
-}
-
-// The last eight bytes once more.
-fn push_eight(list: &mut [u8], size: usize) -> usize {
-    let mut end = size;
-    for _ in 0..8usize {
-        end = push_again(list, end);
-    }
-    end
-}
-
-// The last eight bytes `count` times more.
-fn repeat(list: &mut [u8], size: usize, count: usize) -> usize {
-    let mut end = size;
-    for _ in 0..count {
-        end = push_eight(list, end);
-    }
-    end
-}
-
-// What the number `n` adds to the list under the letter that holds.
-pub fn put(list: &mut [u8], size: usize, letter: u8, n: usize) -> usize {
-    match letter {
-        b'b' => push_number(list, size, n, 1),
-        b'h' => push_number(list, size, n, 2),
-        b'w' => push_number(list, size, n, 4),
-        b'x' => repeat(list, size, n),
-        b'z' => push_zeros(list, size, n),
-        _ => size,
-    }
-}
-
-// A case's name as it stands in the text, nothing if it stands nowhere.
-pub fn print_name(rt: &impl Print, text: &[u8], from: usize, to: usize) -> io::Result<()> {
-    if from <= to {
-        if to <= text.len() {
-            return rt.write_all(&text[from..to]);
+// The case of these words, run at each mark and counted. Without a whole start there is none.
+fn run_case<C: Case>(
+    rt: &impl Print,
+    alloc: Global,
+    words: &[&str],
+    tally: &mut Tally,
+) -> io::Result<()> {
+    let [name, first, second, body @ ..] = words else {
+        return Ok(());
+    };
+    let mut case = C::new(alloc, number(*first)?, number(*second)?);
+    let mut letter = None;
+    for word in body {
+        if *word == "!" {
+            tally.count(case.run(rt, alloc, *name)?);
+        } else if !word.starts_with(|c: char| c.is_ascii_digit()) {
+            letter = C::letter(*word);
+        } else if let Some(letter) = &letter {
+            case.put(*letter, number(*word)?)?;
         }
     }
     Ok(())
 }
 
-pub fn print_number(rt: &impl Print, n: usize) -> io::Result<()> {
-    print!(rt; "{n}")
+// Runs the cases of a text, and prints how many there were and how many of them differ. The words before the first `=`
+// are left out. What is printed stands in no clause.
+pub fn run_all<C: Case>(rt: &impl Print, alloc: Global, text: &str) -> io::Result<()> {
+    let words: Vec<&str> = text
+        .lines()
+        .flat_map(|line| uncommented(line).split_ascii_whitespace())
+        .collect(alloc)?;
+    let mut tally = Tally::default();
+    for case in words.split(|word| *word == "=").skip(1) {
+        run_case::<C>(rt, alloc, case, &mut tally)?;
+    }
+    println!(rt; "{tally}")
 }
 
-// The last line: how many cases were run, and how many of them differ.
-pub fn print_sum(rt: &impl Print, cases: usize, differ: usize) -> io::Result<()> {
-    println!(rt; "{cases} cases, {differ} differ")
+// What a number adds to the list, by the letter before it.
+#[derive(Clone, Copy)]
+pub enum Letter {
+    Byte,
+    Half,
+    Word,
+    Again,
+    Zeros,
+}
+
+impl Letter {
+    // No other word is a letter of the list.
+    pub fn of(word: &str) -> Option<Letter>
+        ensures byte { (result ≡ Some Letter.Byte) ↔ (word.now ≡ codes "b") }
+        ensures half { (result ≡ Some Letter.Half) ↔ (word.now ≡ codes "h") }
+        ensures word { (result ≡ Some Letter.Word) ↔ (word.now ≡ codes "w") }
+        ensures again { (result ≡ Some Letter.Again) ↔ (word.now ≡ codes "x") }
+        ensures zeros { (result ≡ Some Letter.Zeros) ↔ (word.now ≡ codes "z") }
+    {
+        match word {
+            "b" => Some(Letter::Byte),
+            "h" => Some(Letter::Half),
+            "w" => Some(Letter::Word),
+            "x" => Some(Letter::Again),
+            "z" => Some(Letter::Zeros),
+            _ => None,
+        }
+    }
+
+    // Adds to the list what the number is under this letter.
+    pub fn put(self, list: &mut Vec<u8>, number: u32) -> Result<(), AllocError>
+        ensures byte { self ≡ Letter.Byte → OnOk result (list.new.items ≡ list.old.items ++ number % 256 ∷ []) }
+        ensures half { self ≡ Letter.Half → OnOk result (list.new.items ≡ list.old.items ++ take 2 (to_le_bytes w32 number)) }
+        ensures word { self ≡ Letter.Word → OnOk result (list.new.items ≡ list.old.items ++ to_le_bytes w32 number) }
+        ensures kept { OnOk result (take (length list.old.items) list.new.items ≡ list.old.items) }
+        ensures zeros { self ≡ Letter.Zeros → OnOk result (list.new.items ≡ list.old.items ++ replicate number 0) }
+    {
+        let bytes = number.to_le_bytes();
+        match self {
+            Letter::Byte => list.extend_from_slice(&bytes[..1]),
+            Letter::Half => list.extend_from_slice(&bytes[..2]),
+            Letter::Word => list.extend_from_slice(&bytes),
+            Letter::Again => repeat(list, number),
+            Letter::Zeros => list.resize(list.len() + number as usize, 0),
+        }
+    }
+}
+
+// The last eight bytes `count` times more; nothing where there are fewer.
+fn repeat(list: &mut Vec<u8>, count: u32) -> Result<(), AllocError>
+    ensures { OnOk result (take (length list.old.items) list.new.items ≡ list.old.items) }
+{
+    if let Some(last) = list.last_chunk::<8>().copied() {
+        for _ in 0..count {
+            list.extend_from_slice(&last)?;
+        }
+    }
+    Ok(())
+}
+
+// How many cases were run, and how many of them differ.
+#[derive(Clone, Copy, Default)]
+pub struct Tally {
+    cases: u64,
+    differ: u64,
+}
+
+impl Tally {
+    pub fn all_agree(&self) -> bool
+        ensures { IsTrue result ↔ (self.now.differ ≡ 0) }
+    {
+        self.differ == 0
+    }
+
+    // One case more. No text has so many that a count ends.
+    pub fn count(&mut self, agrees: bool)
+        ensures cases { self.new.cases ≡ min (self.old.cases + 1) (2 ^ 64 - 1) }
+        ensures agrees { IsTrue agrees → self.new.differ ≡ self.old.differ }
+        ensures differs { IsFalse agrees → self.new.differ ≡ min (self.old.differ + 1) (2 ^ 64 - 1) }
+    {
+        self.cases = self.cases.saturating_add(1);
+        if !agrees {
+            self.differ = self.differ.saturating_add(1);
+        }
+    }
+}
+
+impl fmt::Display for Tally {
+    fn fmt<W: fmt::Write>(&self, f: &mut fmt::Formatter<W>) -> fmt::Result {
+        let cases = self.cases;
+        let differ = self.differ;
+        write!(f, "{cases} cases, {differ} differ")
+    }
 }

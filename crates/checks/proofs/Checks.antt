@@ -5,56 +5,70 @@ use native.Mathlib.Omega.{arith}
 use mathlib.Core.Bool.{Bool, true, false, cond}
 use mathlib.Core.Path.{◌≡◌, refl, sym, ap, ◌∙◌}
 use mathlib.Core.List.{List, [], ◌∷◌, ◌++◌, append_assoc}
+use Rattle.std.specs.Result.{result_and}
+use Rattle.std.specs.Prelude.{Option, Some, None, Result, Ok, Err, ⊤}
 use Rattle.units.specs.declared.Setup.{Setup}
-use Rattle.registers.specs.declared.Progress.{Progress}
 use Rattle.registers.specs.declared.BusError.{BusError}
+use Rattle.registers.specs.declared.ReadCode.{ReadCode}
+use Rattle.registers.specs.declared.WriteCode.{WriteCode}
 use Rattle.registers.specs.declared.Source.{Source}
-use Rattle.registers.specs.declared.Cut.{Cut}
-use Rattle.registers.specs.declared.Taken.{Taken}
-use Rattle.registers.specs.declared.Checked.{Checked}
-use Rattle.registers.specs.declared.Outcome.{Outcome}
-use Rattle.registers.specs.declared.Flagged.{Flagged}
+use Rattle.registers.specs.declared.Stop.{Stop}
+use Rattle.registers.specs.declared.access.Bus.{Bus}
 use Rattle.registers.specs.Word.{has, BERR}
 use Rattle.registers.specs.Access.{SR1, wSR1, clear_word, Access}
 use Rattle.registers.specs.Machine.{Step, Act, access, next, check_word, after_check}
-use Rattle.registers.specs.State.{State, After, Took, Found, at, then, taking, finding, entry, received, room, resume, read, write, check, check_flags, found_then, found_word}
-use Rattle.registers.specs.Contract.{outcome, checked, checked_of, check_outcome, failed_of, word_of, ReadsFrom, WritesFrom, ChecksFrom, Refines, Reaches}
+use Rattle.registers.specs.State.{State, After, Took, Found, then, taking, finding, entry, received, room, resume, read, write, check, check_flags, found_then, found_word}
+use Rattle.registers.specs.Contract.{state, outcome, found, Reads, Writes, Checks, Does, Reaches}
 use Rattle.registers.proofs.Laws.{read_law, write_law, fail_law, received_other, read-room, write-room}
+use Rattle.registers.proofs.Steps.{HandsOn, handed_on, read_word, read_cut, read_unfailed, same_then}
 
--- the tags of a check without a word
-abbrev pub NoWord : Checked → Type 0
-NoWord r = (v : ℕ) (b : Progress) → r ≡ Checked.Word v b → ⊥
+-- a clear that is cut short
+found_stop : (stop : Stop) (st : State) (k : State → Found) → found st (Err stop) ≡ found_then (outcome st (Err stop)) k
+found_stop (Stop.Failed e) st k = refl
+found_stop (Stop.CutShort c) st k = refl
 
 -- the answer of a check, from its read and its clear
-module _ {st : State} {rs lg rx : List ℕ} {r : Taken} (x : ReadsFrom SR1 st rs lg rx r) {n : Source} where
-  pub check_none : {k : Cut} {b : Progress} → r ≡ Taken.CutShort k b → ChecksFrom n st rs lg rx (checked_of r)
+module _ {n : Source} {b b₁ : Bus} {r : Result ℕ Stop} (x : Reads ReadCode.Sr1 b b₁ r) where
+  none : (stop : Stop) → r ≡ Err stop → (r' : Result ℕ Stop) → HandsOn stop r' → Checks n b b₁ r'
   unfolding check
-  check_none e = record { is = rw (← x.is, e) }
+  none (Stop.Failed a) e r' h = absurd (read_unfailed x e)
+  none (Stop.CutShort c) e r' h = record { same = x.same; is = rw (handed_on r' h, read_cut x e) }
 
-  module _ {v : ℕ} {b : Progress} (e : r ≡ Taken.Word v b) {f : Flagged} (d : f ≡ check_word n v) where
-    pub check_fine : f ≡ Flagged.Nothing → has BERR v ≡ false → ChecksFrom n st rs lg rx (Checked.Word v b)
-    unfolding check
-    check_fine h t = record { is = rw (← x.is, e, ← d, h, t) }
+  pub check_none : {stop : Stop} → r ≡ Err stop → {r' : Result ℕ Stop} → HandsOn stop r' → Checks n b b₁ r'
+  check_none {stop} e {r'} h = none stop e r' h
 
-    pub check_error : {a : BusError} → f ≡ Flagged.Error a → {lg' : List ℕ} {o : Outcome} → WritesFrom wSR1 (clear_word a) (at rs lg rx b) rs lg' rx o
-        → ChecksFrom n st rs lg' rx (failed_of o a)
+  module _ {v : ℕ} (e : r ≡ Ok v) {f : Option BusError} (d : f ≡ check_word n v) where
+    pub check_fine : f ≡ None → has BERR v ≡ false → Checks n b b₁ (Ok v)
     unfolding check
-    check_error {a} h {lg'} {o} y = record { is = rw (← x.is, e, ← d, h, ← y.is) (go o) }
-      where
-        go : (o : Outcome) → checked rs lg' rx (failed_of o a) ≡ found_then (outcome rs lg' rx o) (λ st'. Found.failed a st')
-        go (Outcome.Well b) = refl
-        go (Outcome.Failed e b) = refl
-        go (Outcome.CutShort c b) = refl
+    check_fine h t = record { same = x.same; is = rw (read_word x e, ← d, h, t) }
 
-    pub check_spurious : f ≡ Flagged.Nothing → has BERR v ≡ true → {lg' : List ℕ} {o : Outcome} → WritesFrom wSR1 (clear_word BusError.Bus) (at rs lg rx b) rs lg' rx o
-        → ChecksFrom n st rs lg' rx (word_of o v)
-    unfolding check
-    check_spurious h t {lg'} {o} y = record { is = rw (← x.is, e, ← d, h, t, ← y.is) (go o) }
-      where
-        go : (o : Outcome) → checked rs lg' rx (word_of o v) ≡ found_then (outcome rs lg' rx o) (λ st'. Found.word v st')
-        go (Outcome.Well b) = refl
-        go (Outcome.Failed e b) = refl
-        go (Outcome.CutShort c b) = refl
+    -- an error: its flag is cleared
+    module _ {a : BusError} (h : f ≡ Some a) {b₂ : Bus} {o : Result ⊤ Stop} (y : Writes WriteCode.Sr1 (clear_word a) b₁ b₂ o) where
+      pub check_error : {t : ⊤} → o ≡ Ok t → Checks n b b₂ (Err (Stop.Failed a))
+      unfolding check
+      check_error k = record { same = same_then x.same y.same; is = rw (read_word x e, ← d, h, ← y.is, k) }
+
+      pub check_error_stops : {stop : Stop} → o ≡ Err stop → {r' : Result ℕ Stop} → HandsOn stop r' → Checks n b b₂ r'
+      unfolding check
+      check_error_stops {stop} k {r'} i =
+          record {
+            same = same_then x.same y.same;
+            is = rw (read_word x e, ← d, h, ← y.is, k, handed_on r' i) (found_stop stop (state b₂) (λ st'. Found.failed a st'));
+          }
+
+    -- BERR alone: it is cleared, and the word is used
+    module _ (h : f ≡ None) (t : has BERR v ≡ true) {b₂ : Bus} {o : Result ⊤ Stop} (y : Writes WriteCode.Sr1 (clear_word BusError.Bus) b₁ b₂ o) where
+      pub check_spurious : {u : ⊤} → o ≡ Ok u → Checks n b b₂ (Ok v)
+      unfolding check
+      check_spurious k = record { same = same_then x.same y.same; is = rw (read_word x e, ← d, h, t, ← y.is, k) }
+
+      pub check_spurious_stops : {stop : Stop} → o ≡ Err stop → {r' : Result ℕ Stop} → HandsOn stop r' → Checks n b b₂ r'
+      unfolding check
+      check_spurious_stops {stop} k {r'} i =
+          record {
+            same = same_then x.same y.same;
+            is = rw (read_word x e, ← d, h, t, ← y.is, k, handed_on r' i) (found_stop stop (state b₂) (λ st'. Found.word v st'));
+          }
 
 -- the step i checks with the source n: on the word v, what follows it is m v
 pub record Checking (s : Setup) (i : Step) (n : Source) (m : ℕ → List Step) : Type 0 where
@@ -93,10 +107,10 @@ check_law {s} {i} {n} {m} d p st = read_law s i SR1 p st d.reads refl ∙ go (re
     spurious v (After.failed e st) = refl
     spurious v (After.cut_short c st) = refl
 
-    flags : (f : Flagged) (t : Bool) (v : ℕ) (st : State) → resume s (after_check f t (m v) ++ p) st ≡ finding (check_flags f t v st) on
-    flags (Flagged.Error e) t v st = write_law s wSR1 (clear_word e) (Step.fail e ∷ p) st refl ∙ error e (write wSR1 (clear_word e) st)
-    flags Flagged.Nothing true v st = write_law s wSR1 (clear_word BusError.Bus) (m v ++ p) st refl ∙ spurious v (write wSR1 (clear_word BusError.Bus) st)
-    flags Flagged.Nothing false v st = refl
+    flags : (f : Option BusError) (t : Bool) (v : ℕ) (st : State) → resume s (after_check f t (m v) ++ p) st ≡ finding (check_flags f t v st) on
+    flags (Some e) t v st = write_law s wSR1 (clear_word e) (Step.fail e ∷ p) st refl ∙ error e (write wSR1 (clear_word e) st)
+    flags None true v st = write_law s wSR1 (clear_word BusError.Bus) (m v ++ p) st refl ∙ spurious v (write wSR1 (clear_word BusError.Bus) st)
+    flags None false v st = refl
 
     go : (t : Took) → taking t (λ v st'. resume s (next s i v ++ p) (received (entry SR1 v) st'))
         ≡ finding (found_word t (λ v st'. check_flags (check_word n v) (has BERR v) v st')) on
@@ -104,28 +118,32 @@ check_law {s} {i} {n} {m} d p st = read_law s i SR1 p st d.reads refl ∙ go (re
     go (Took.cut_short c st) = refl
 
 -- a check for the step i
-module _ {s : Setup} {q : List Step} {st : State} {i : Step} {q₁ : List Step} {st₁ : State} (g : Reaches s q st (i ∷ q₁) st₁)
-    {n : Source} {rs lg rx : List ℕ} {r : Checked} (x : ChecksFrom n st₁ rs lg rx r)
-    {m : ℕ → List Step} (d : Checking s i n m) where
-  pub check_step : {v : ℕ} {b : Progress} → r ≡ Checked.Word v b → {m' : List Step} → m v ≡ m' → Reaches s q st (m' ++ q₁) (at rs lg rx b)
-  check_step e {m'} h = record { is = λ p. g.is p ∙ check_law d (q₁ ++ p) st₁ ∙ rw (← x.is, e, h, append_assoc m' q₁ p) }
+module _ {q : List Step} {b : Bus} {i : Step} {q₁ : List Step} {b₁ : Bus} (g : Reaches q b (i ∷ q₁) b₁)
+    {n : Source} {b₂ : Bus} {r : Result ℕ Stop} (x : Checks n b₁ b₂ r)
+    {m : ℕ → List Step} (d : Checking b.setup i n m) where
+  onward_check : (p : List Step) → resume b.setup (q ++ p) (state b) ≡ finding (found (state b₂) r) (λ v st'. resume b.setup (m v ++ (q₁ ++ p)) st')
+  onward_check p = g.is p ∙ check_law d (q₁ ++ p) (state b₁) ∙ rw (← x.is)
 
-  pub check_stops : NoWord r → Refines s q st rs lg rx (check_outcome r)
-  check_stops h = record { is = λ p. g.is p ∙ check_law d (q₁ ++ p) st₁ ∙ rw (← x.is) (go r h p _) }
+  pub check_step : {v : ℕ} → r ≡ Ok v → {m' : List Step} → m v ≡ m' → Reaches q b (m' ++ q₁) b₂
+  check_step e {m'} h = record { same = same_then g.same x.same; is = λ p. onward_check p ∙ rw (e, h, append_assoc m' q₁ p) }
+
+  -- with no word the call ends as the check did
+  pub check_stops : {t : ⊤} → ((v : ℕ) → r ≡ Ok v → ⊥) → Does q b b₂ (result_and r (Ok t))
+  check_stops {t} h = record { same = same_then g.same x.same; is = λ p. onward_check p ∙ go r h p _ }
     where
-      go : (r : Checked) → NoWord r → (p : List Step) (k : ℕ → State → After) → finding (checked rs lg rx r) k ≡ then (outcome rs lg rx (check_outcome r)) (resume s p)
-      go (Checked.Word v b) h p k = absurd (h v b refl)
-      go (Checked.Failed e b) h p k = refl
-      go (Checked.CutShort c b) h p k = refl
+      go : (r : Result ℕ Stop) → ((v : ℕ) → r ≡ Ok v → ⊥) → (p : List Step) (k : ℕ → State → After)
+          → finding (found (state b₂) r) k ≡ then (outcome (state b₂) (result_and r (Ok t))) (resume b.setup p)
+      go (Ok v) h p k = absurd (h v refl)
+      go (Err (Stop.Failed e)) h p k = refl
+      go (Err (Stop.CutShort c)) h p k = refl
 
 -- a check that answers a word leaves less room
-pub check_less : {n : Source} {st : State} {rs lg rx : List ℕ} {r : Checked} {v : ℕ} {b : Progress}
-    → ChecksFrom n st rs lg rx r → r ≡ Checked.Word v b → room (at rs lg rx b) < room st
+pub check_less : {n : Source} {b b' : Bus} {r : Result ℕ Stop} {v : ℕ} → Checks n b b' r → r ≡ Ok v → room (state b') < room (state b)
 unfolding check
-check_less {n} {st} {rs} {lg} {rx} {r} {v} {b} x e = go (read SR1 st) refl (ap (checked rs lg rx) (sym e) ∙ x.is)
+check_less {n} {b} {b'} {r} {v} x e = go (read SR1 (state b)) refl (ap (found (state b')) (sym e) ∙ x.is)
   where
     answer : Found
-    answer = Found.word v (at rs lg rx b)
+    answer = Found.word v (state b')
 
     -- the clear of an error ends in no word; that of BERR leaves no more room than before
     error : (a : BusError) (w : After) → answer ≡ found_then w (λ st'. Found.failed a st') → ⊥
@@ -134,20 +152,20 @@ check_less {n} {st} {rs} {lg} {rx} {r} {v} {b} x e = go (read SR1 st) refl (ap (
     error a (After.cut_short c st') h = let z : ◌≡◌ {A = ℕ} 0 1 = cc in omega arith
 
     spurious : (st₁ : State) (w : ℕ) (o : After) → o ≡ write wSR1 (clear_word BusError.Bus) st₁ → answer ≡ found_then o (λ st'. Found.word w st')
-        → room (at rs lg rx b) ≤ room st₁
+        → room (state b') ≤ room st₁
     spurious st₁ w (After.going st') k h =
-        let y : at rs lg rx b ≡ st' = cc in
+        let y : state b' ≡ st' = cc in
         omega (arith, ap room y, write-room wSR1 (clear_word BusError.Bus) st₁ k)
     spurious st₁ w (After.failed e' st') k h = let z : ◌≡◌ {A = ℕ} 0 1 = cc in absurd (omega arith)
     spurious st₁ w (After.cut_short c st') k h = let z : ◌≡◌ {A = ℕ} 0 1 = cc in absurd (omega arith)
 
-    flags : (f : Flagged) (t : Bool) (w : ℕ) (st₁ : State) → answer ≡ check_flags f t w st₁ → room (at rs lg rx b) ≤ room st₁
-    flags (Flagged.Error a) t w st₁ h = absurd (error a (write wSR1 (clear_word a) st₁) h)
-    flags Flagged.Nothing true w st₁ h = spurious st₁ w (write wSR1 (clear_word BusError.Bus) st₁) refl h
-    flags Flagged.Nothing false w st₁ h = let y : at rs lg rx b ≡ st₁ = cc in omega (arith, ap room y)
+    flags : (f : Option BusError) (t : Bool) (w : ℕ) (st₁ : State) → answer ≡ check_flags f t w st₁ → room (state b') ≤ room st₁
+    flags (Some a) t w st₁ h = absurd (error a (write wSR1 (clear_word a) st₁) h)
+    flags None true w st₁ h = spurious st₁ w (write wSR1 (clear_word BusError.Bus) st₁) refl h
+    flags None false w st₁ h = let y : state b' ≡ st₁ = cc in omega (arith, ap room y)
 
-    go : (t : Took) → read SR1 st ≡ t → answer ≡ found_word t (λ w st'. check_flags (check_word n w) (has BERR w) w st') → room (at rs lg rx b) < room st
-    go (Took.word w st₁) k h = omega (arith, read-room SR1 st (sym k), flags (check_word n w) (has BERR w) w st₁ h)
+    go : (t : Took) → read SR1 (state b) ≡ t → answer ≡ found_word t (λ w st'. check_flags (check_word n w) (has BERR w) w st') → room (state b') < room (state b)
+    go (Took.word w st₁) k h = omega (arith, read-room SR1 (state b) (sym k), flags (check_word n w) (has BERR w) w st₁ h)
     go (Took.cut_short c st₁) k h = let z : ◌≡◌ {A = ℕ} 0 1 = cc in absurd (omega arith)
 
 -- a test that came out, in a choice

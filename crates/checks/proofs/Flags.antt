@@ -8,7 +8,7 @@ use lib.Bits.{bit_and, and_block, and_mask, and_high, and_zero_r}
 use lib.Dec.{eqb}
 use borrow.Author.Tests.{eq-eqb, ne_eqb}
 use Rattle.registers.specs.declared.BusError.{BusError}
-use Rattle.registers.specs.declared.Flagged.{Flagged}
+use Rattle.std.specs.Prelude.{Option, Some, None}
 use Rattle.registers.specs.declared.Source.{Source}
 use Rattle.registers.specs.Word.{has, BERR, ARLO, AF, OVR, PECERR, TIMEOUT}
 use Rattle.registers.specs.Machine.{check_word}
@@ -61,22 +61,22 @@ flags_tested v = go (bit_and v 24320) (bits v) (has TIMEOUT v) (has PECERR v) (h
         eq-eqb m 0 zero
 
 -- what a check finds, by its flags
-abbrev found : Source → (a b c d e : Bool) → Flagged
+abbrev found : Source → (a b c d e : Bool) → Option BusError
 found n a b c d e =
-    cond a (Flagged.Error BusError.Timeout)
-    (cond b (Flagged.Error BusError.Crc)
-    (cond c (Flagged.Error BusError.Overrun)
-    (cond d (Flagged.Error (BusError.NoAcknowledge n))
-    (cond e (Flagged.Error BusError.ArbitrationLoss)
-    Flagged.Nothing))))
+    cond a (Some BusError.Timeout)
+    (cond b (Some BusError.Crc)
+    (cond c (Some BusError.Overrun)
+    (cond d (Some (BusError.NoAcknowledge n))
+    (cond e (Some BusError.ArbitrationLoss)
+    None))))
 
 module _ (n : Source) (v : ℕ) where
   -- without an error flag a check finds nothing, and BERR is clear
-  pub nothing_found : no_error_flag v ≡ true → (Flagged.Nothing ≡ check_word n v) × (has BERR v ≡ false)
+  pub nothing_found : no_error_flag v ≡ true → (None ≡ check_word n v) × (has BERR v ≡ false)
   unfolding no_error_flag check_word
   nothing_found = go (has TIMEOUT v) (has PECERR v) (has OVR v) (has AF v) (has ARLO v) (has BERR v)
     where
-      go : (a b c d e f : Bool) → not (a || b || c || d || e || f) ≡ true → (Flagged.Nothing ≡ found n a b c d e) × (f ≡ false)
+      go : (a b c d e f : Bool) → not (a || b || c || d || e || f) ≡ true → (None ≡ found n a b c d e) × (f ≡ false)
       go true b c d e f h = let z : ◌≡◌ {A = ℕ} 0 1 = cc in absurd (omega arith)
       go false true c d e f h = let z : ◌≡◌ {A = ℕ} 0 1 = cc in absurd (omega arith)
       go false false true d e f h = let z : ◌≡◌ {A = ℕ} 0 1 = cc in absurd (omega arith)
@@ -86,11 +86,11 @@ module _ (n : Source) (v : ℕ) where
       go false false false false false false h = (refl, refl)
 
   -- with one, and nothing found, it is BERR
-  pub berr_found : no_error_flag v ≡ false → Flagged.Nothing ≡ check_word n v → has BERR v ≡ true
+  pub berr_found : no_error_flag v ≡ false → None ≡ check_word n v → has BERR v ≡ true
   unfolding no_error_flag check_word
   berr_found = go (has TIMEOUT v) (has PECERR v) (has OVR v) (has AF v) (has ARLO v) (has BERR v)
     where
-      go : (a b c d e f : Bool) → not (a || b || c || d || e || f) ≡ false → Flagged.Nothing ≡ found n a b c d e → f ≡ true
+      go : (a b c d e f : Bool) → not (a || b || c || d || e || f) ≡ false → None ≡ found n a b c d e → f ≡ true
       go true b c d e f h k = let z : ◌≡◌ {A = ℕ} 0 1 = cc in absurd (omega arith)
       go false true c d e f h k = let z : ◌≡◌ {A = ℕ} 0 1 = cc in absurd (omega arith)
       go false false true d e f h k = let z : ◌≡◌ {A = ℕ} 0 1 = cc in absurd (omega arith)

@@ -1,20 +1,12 @@
--- Waits that read until a bit is set or clear: what the loop keeps, and what the word read makes of the step.
+-- Waits that read until a bit is set or clear: what the word read makes of the step.
 -- Assumes nothing.
 use Prim.Native.Nat.{ℕ}
 use mathlib.Core.Bool.{Bool, cond}
 use mathlib.Core.Path.{◌≡◌}
-use mathlib.Core.List.{List, [], ◌∷◌}
-use lib.ListN.{length}
+use mathlib.Core.List.{[], ◌∷◌}
 use Rattle.units.specs.declared.Setup.{Setup}
-use Rattle.registers.specs.declared.Progress.{Progress}
 use Rattle.registers.specs.Word.{has, STOP, MSL, BUSY}
 use Rattle.registers.specs.Machine.{Step, next}
-use Rattle.registers.specs.State.{at}
-use Rattle.registers.specs.Contract.{Reaches}
-
--- the loop comes back to its step i, with the record as long as at first
-abbrev pub Waiting : Step → List ℕ → List ℕ → Progress → List ℕ → Progress → Type 0
-Waiting i rs lg₀ b₀ lg b = ((s : Setup) (rx : List ℕ) → Reaches s (i ∷ []) (at rs lg₀ rx b₀) (i ∷ []) (at rs lg rx b)) × (length lg ≡ length lg₀)
 
 -- a wait is over, or goes on, by the bits of the word read
 module _ (s : Setup) (v : ℕ) {t : Bool} where

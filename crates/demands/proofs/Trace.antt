@@ -11,7 +11,7 @@ use Rattle.registers.specs.declared.Source.{Source}
 use Rattle.registers.specs.declared.BusError.{BusError}
 use Rattle.registers.specs.declared.Entry.{Entry}
 use Rattle.registers.specs.declared.Bits.{Bits}
-use Rattle.registers.specs.declared.Flagged.{Flagged}
+use Rattle.std.specs.Prelude.{Option, Some, None}
 use Rattle.registers.specs.declared.Awaited.{Awaited}
 use Rattle.registers.specs.Word.{has, SB, BERR, STOP}
 use Rattle.registers.specs.Access.{SR1, CYC, wCR1, wSR1, Access, code_of as access_code, Ending, number}
@@ -193,14 +193,14 @@ module _ {s : Setup} {P : Type 0} where
   unfolding next first after_check
   check_or_flag {n} {p} {q} = on (λ l rec v. then (check_word n v) (has BERR v) (has SB v) l rec)
     where
-      then : (c : Flagged) (berr b : Bool) (l : List Entry)
+      then : (c : Option BusError) (berr b : Bool) (l : List Entry)
           → At s P l (Step.check SB n ∷ Step.check_master ∷ p) (Step.flag SB ∷ Step.master ∷ q)
           → At s P l (after_check c berr (cond b [] (Step.check SB n ∷ [])) ++ Step.check_master ∷ p) (cond b [] (Step.flag SB ∷ []) ++ Step.master ∷ q)
-      then (Flagged.Error e) berr b l rec = here l (traceless (skip failing))
-      then Flagged.Nothing true true l rec = here l (apart (omega arith))
-      then Flagged.Nothing true false l rec = here l (apart (omega arith))
-      then Flagged.Nothing false true l rec = here l (apart (omega arith))
-      then Flagged.Nothing false false l rec = rec
+      then (Some e) berr b l rec = here l (traceless (skip failing))
+      then None true true l rec = here l (apart (omega arith))
+      then None true false l rec = here l (apart (omega arith))
+      then None false true l rec = here l (apart (omega arith))
+      then None false false l rec = rec
 
   -- checks until two flags, after which the first accesses differ and neither reads SR1
   pub checks : {f g : ℕ} {n : Source} {p q : List Step} → (first p ≡ first q → ⊥) → (first p ≡ SR1 → ⊥) → (first q ≡ SR1 → ⊥)
@@ -211,18 +211,18 @@ module _ {s : Setup} {P : Type 0} where
       (λ l rec cleared v. then (check_word n v) (has BERR v) (has f v) (has g v) l rec cleared)
       (λ l rec cleared v. rec)
     where
-      then : (c : Flagged) (berr b b' : Bool) (l : List Entry) → At s P l (Step.check f n ∷ p) (Step.check g n ∷ q)
+      then : (c : Option BusError) (berr b b' : Bool) (l : List Entry) → At s P l (Step.check f n ∷ p) (Step.check g n ∷ q)
           → At s P l (clear BusError.Bus ∷ Step.check f n ∷ p) (clear BusError.Bus ∷ Step.check g n ∷ q)
           → At s P l (after_check c berr (cond b [] (Step.check f n ∷ [])) ++ p) (after_check c berr (cond b' [] (Step.check g n ∷ [])) ++ q)
-      then (Flagged.Error e) berr b b' l rec cleared = here l (traceless (skip failing))
-      then Flagged.Nothing true true true l rec cleared = here l (skip (apart pq))
-      then Flagged.Nothing true true false l rec cleared = here l (skip (apart ps))
-      then Flagged.Nothing true false true l rec cleared = here l (skip (apart (λ e. qs (sym e))))
-      then Flagged.Nothing true false false l rec cleared = cleared
-      then Flagged.Nothing false true true l rec cleared = here l (apart pq)
-      then Flagged.Nothing false true false l rec cleared = here l (apart ps)
-      then Flagged.Nothing false false true l rec cleared = here l (apart (λ e. qs (sym e)))
-      then Flagged.Nothing false false false l rec cleared = rec
+      then (Some e) berr b b' l rec cleared = here l (traceless (skip failing))
+      then None true true true l rec cleared = here l (skip (apart pq))
+      then None true true false l rec cleared = here l (skip (apart ps))
+      then None true false true l rec cleared = here l (skip (apart (λ e. qs (sym e))))
+      then None true false false l rec cleared = cleared
+      then None false true true l rec cleared = here l (apart pq)
+      then None false true false l rec cleared = here l (apart ps)
+      then None false false true l rec cleared = here l (apart (λ e. qs (sym e)))
+      then None false false false l rec cleared = rec
 
   -- timed waits for two flags, after which the first accesses differ and neither reads the counter
   pub waits : {f g : ℕ} {n : Source} {c : ℕ} {h : Handler} {p q : List Step} → Ends h
@@ -234,14 +234,14 @@ module _ {s : Setup} {P : Type 0} where
       (λ l rec later v. polled t (poll_word n v) (has f v) (has g v) l later)
       (λ l rec later v. late t (leb c (since t v)) l rec)))
     where
-      polled : (t : ℕ) (w : Flagged) (b b' : Bool) (l : List Entry)
+      polled : (t : ℕ) (w : Option BusError) (b b' : Bool) (l : List Entry)
           → At s P l (Step.late (Awaited.Flag f n) c h t ∷ p) (Step.late (Awaited.Flag g n) c h t ∷ q)
           → At s P l (after_poll s h w b (Step.late (Awaited.Flag f n) c h t) ++ p) (after_poll s h w b' (Step.late (Awaited.Flag g n) c h t) ++ q)
-      polled t (Flagged.Error e) b b' l rec = here l (traceless (skip (handled end e p)))
-      polled t Flagged.Nothing true true l rec = here l (apart pq)
-      polled t Flagged.Nothing true false l rec = here l (apart pc)
-      polled t Flagged.Nothing false true l rec = here l (apart (λ e. qc (sym e)))
-      polled t Flagged.Nothing false false l rec = rec
+      polled t (Some e) b b' l rec = here l (traceless (skip (handled end e p)))
+      polled t None true true l rec = here l (apart pq)
+      polled t None true false l rec = here l (apart pc)
+      polled t None false true l rec = here l (apart (λ e. qc (sym e)))
+      polled t None false false l rec = rec
 
       late : (t : ℕ) (b : Bool) (l : List Entry)
           → At s P l (Step.poll (Awaited.Flag f n) c h t ∷ p) (Step.poll (Awaited.Flag g n) c h t ∷ q)

@@ -15,7 +15,7 @@ use Rattle.buslist.specs.Combined.{dropped, gather, joined, read_then_write}
 use Rattle.buslist.specs.Encode.{half_bytes, word_bytes, header, call_entries, call_bytes, operation_entries, operation_bytes, encode}
 use Rattle.registers.specs.declared.Source.{Source}
 use Rattle.registers.specs.declared.BusError.{BusError}
-use Rattle.registers.specs.declared.Flagged.{Flagged}
+use Rattle.std.specs.Prelude.{Option, Some, None}
 use Rattle.registers.specs.declared.Awaited.{Awaited}
 use Rattle.registers.specs.Word.{has, with_bit, without_bit}
 use Rattle.registers.specs.Access.{cut, clear_word, record_of, reads, received_of, number}
@@ -90,8 +90,8 @@ pub record Table : Type 0 where
   pub p8_out : (s : Setup) (w : Awaited) (h : Handler) → next s (Step.late w 10 h 4294967290) 4 ≡ handle s h BusError.Timeout
   pub p8_in : (s : Setup) (w : Awaited) (h : Handler) → next s (Step.late w 11 h 4294967290) 4 ≡ Step.poll w 11 h 4294967290 ∷ []
   -- SR1 0C00 hex: polling Overrun, blocking NoAcknowledge
-  pub p9_polling : (n : Source) → check_word n 0x0c00 ≡ Flagged.Error BusError.Overrun
-  pub p9_blocking : (n : Source) → poll_word n 0x0c00 ≡ Flagged.Error (BusError.NoAcknowledge n)
+  pub p9_polling : (n : Source) → check_word n 0x0c00 ≡ Some BusError.Overrun
+  pub p9_blocking : (n : Source) → poll_word n 0x0c00 ≡ Some (BusError.NoAcknowledge n)
   -- writes 1 and 2 reduce as one write of both
   pub p10 : reduced (call_to 3 (write (1 ∷ []) ∷ write (2 ∷ []) ∷ [])) ≡ reduced (call_to 0 (write (1 ∷ 2 ∷ []) ∷ []))
 

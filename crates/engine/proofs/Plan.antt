@@ -17,7 +17,7 @@ use Rattle.blocking_write.specs.Write.{later_bytes, write_wait, write_bytes_and_
 use Rattle.blocking.specs.Blocking.{receive_bytes, last_three, read_arm, read_steps, done_last, close_after, blocking_steps, operation_steps as blocking_operation}
 use Rattle.calls.specs.Calls.{early, operations_steps, performed, steps_of}
 use Rattle.registers.specs.declared.BusError.{BusError}
-use Rattle.registers.specs.declared.Flagged.{Flagged}
+use Rattle.std.specs.Prelude.{Option, Some, None}
 use Rattle.registers.specs.declared.Awaited.{Awaited}
 use Rattle.registers.specs.Word.{has, BTF, BERR, STOP, MSL, BUSY}
 use Rattle.registers.specs.Access.{SR1, SR2, CR1, DR, CYC, wCR1, wCR2, wCCR, wTRISE, wSR1, wDR, Access}
@@ -94,17 +94,17 @@ module _ (P G : ℕ → ℕ) (w : Weights P G) where
   handle_none s Handler.stops e = total_append (stop_for e) (Step.fail e ∷ []) ∙ rw (stop_none e)
   handle_none s (Handler.resets n) e = omega (arith, again_none s n e)
 
-  check_none : (f : Flagged) (t : Bool) (p : List Step) → total p ≡ 0 → total (after_check f t p) ≡ 0
+  check_none : (f : Option BusError) (t : Bool) (p : List Step) → total p ≡ 0 → total (after_check f t p) ≡ 0
   unfolding after_check total
-  check_none (Flagged.Error e) t p h = omega arith
-  check_none Flagged.Nothing true p h = omega arith
-  check_none Flagged.Nothing false p h = h
+  check_none (Some e) t p h = omega arith
+  check_none None true p h = omega arith
+  check_none None false p h = h
 
-  poll_none : (s : Setup) (h : Handler) (f : Flagged) (t : Bool) (i : Step) → weight i ≡ 0 → total (after_poll s h f t i) ≡ 0
+  poll_none : (s : Setup) (h : Handler) (f : Option BusError) (t : Bool) (i : Step) → weight i ≡ 0 → total (after_poll s h f t i) ≡ 0
   unfolding after_poll total
-  poll_none s h (Flagged.Error e) t i k = omega (arith, handle_none s h e)
-  poll_none s h Flagged.Nothing true i k = omega arith
-  poll_none s h Flagged.Nothing false i k = omega arith
+  poll_none s h (Some e) t i k = omega (arith, handle_none s h e)
+  poll_none s h None true i k = omega arith
+  poll_none s h None false i k = omega arith
 
   next_none : (s : Setup) (i : Step) (v : ℕ) → total (next s i v) ≡ 0
   unfolding next total

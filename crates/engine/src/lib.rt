@@ -3,16 +3,18 @@
 
 ghost use Rattle.std.specs.Prelude.{◌≡◌, length};
 ghost use Rattle.buslist.specs.Refusal.{refusal};
-ghost use Rattle.calls.specs.Whole.{progress_of};
+ghost use Rattle.registers.specs.Contract.{outcome_number};
 ghost use Rattle.engine.specs.Ended.{ended_counts};
 ghost use Rattle.engine.specs.Run.{Runs, HostRuns};
 ghost use Rattle.engine.specs.Speed.{speed_out, speed_cr2, speed_trise, speed_ccr};
 
-use registers::{Outcome, Progress};
-use units::Hertz;
+use buslist::BusList;
+use registers::{Bus, Progress, Stop};
+use units::{Hertz, Mode};
 
-// How a run ended: its answer, calls ended well, readings used, accesses made, bytes received.
-#[derive(Clone, Copy)]
+// How a run ended: its answer, calls ended well, readings used, accesses made, bytes received. The answer is a number, since
+// C hosts read it.
+#[derive(Clone, Copy, PartialEq, Eq)]
 pub struct Counts {
     pub answer: u32,
     pub calls: usize,
@@ -21,14 +23,14 @@ pub struct Counts {
     pub got: usize,
 }
 
-// What stands for a speed word where the settings have none.
+// What stands for a speed word where the settings have none: a number and no Option, since C calls these functions.
 const NO_WORD: u32 = 4_294_967_295;
 
 // Cause 22, or an unknown mode.
 fn speed_out(mode: u32, frequency: u32) -> bool
     ensures { result ≡ speed_out mode frequency }
 {
-    !units::mode_known(mode) | units::frequency_out(Hertz(frequency))
+    Mode::try_from(mode).is_err() | units::frequency_out(Hertz(frequency))
 }
 
 // The CR2 word of the settings.
@@ -61,24 +63,23 @@ pub fn speed_ccr(pclk1: u32, mode: u32, frequency: u32) -> u32
     units::ccr_word(Hertz(pclk1), units::mode_of(mode), Hertz(frequency))
 }
 
-// How far the run had come at an outcome.
-fn progress_of(outcome: Outcome) -> Progress
-    ensures { result ≡ progress_of outcome }
+// The number that document 01 gives an outcome.
+#[tactic(auto, unfolding(registers::specs::Access::number))]
+fn number(outcome: Result<(), Stop>) -> u32
+    ensures { result ≡ outcome_number outcome }
 {
     match outcome {
-        Outcome::Well(progress) => progress,
-        Outcome::Failed(_, progress) => progress,
-        Outcome::CutShort(_, progress) => progress,
+        Ok(()) => 0,
+        Err(stop) => stop.into(),
     }
 }
 
-// The answer and the counts of a run that ended so after these calls.
-fn counts_of(outcome: Outcome, calls: usize) -> Counts
-    ensures { result ≡ ended_counts outcome calls }
+// The answer and the counts of a run that had come so far when it ended so after these calls.
+fn counts_of(progress: Progress, outcome: Result<(), Stop>, calls: usize) -> Counts
+    ensures { result ≡ ended_counts progress outcome calls }
 {
-    let progress = progress_of(outcome);
     Counts {
-        answer: registers::number(outcome),
+        answer: number(outcome),
         calls,
         used: progress.used,
         made: progress.made,
@@ -87,40 +88,34 @@ fn counts_of(outcome: Outcome, calls: usize) -> Counts
 }
 
 // The run of an accepted list: the bring-up, then the calls.
-fn run_accepted(list: &[u8], readings: &[u32], rx: &mut [u8], log: &mut [u32]) -> Counts
+fn run_accepted(list: &BusList<'_>, readings: &[u32], rx: &mut [u8], log: &mut [u32]) -> Counts
     requires { refusal list.now (length rx.old) ≡ 0 }
     ensures { Runs list readings rx log result }
 {
-    let setup = units::setup_of(buslist::read_settings(list));
-    let start = Progress {
-        used: 0,
-        made: 0,
-        got: 0,
+    let setup = units::setup_of(list.settings());
+    let mut bus = Bus::new(setup, readings, log, rx);
+    let outcome = i2c::init(&mut bus);
+    let Ok(()) = outcome else {
+        return counts_of(bus.progress, outcome, 0);
     };
-    let outcome = i2c::init(readings, log, start, setup);
-    let Outcome::Well(progress) = outcome else {
-        return counts_of(outcome, 0);
-    };
-    let stopped = calls::run_calls(list, readings, rx, log, progress, setup);
-    let ended = stopped.outcome;
-    counts_of(ended, stopped.calls as usize)
+    let stopped = calls::run_calls(&mut bus, list);
+    counts_of(bus.progress, stopped.outcome, stopped.calls as usize)
 }
 
 // The run of a bus list on these readings: the accesses go to the record `log`, the received bytes to `rx`.
 pub fn run(list: &[u8], readings: &[u32], rx: &mut [u8], log: &mut [u32]) -> Counts
     ensures { Runs list readings rx log result }
 {
-    let refused = acceptance::refusal(list, rx.len());
-    if refused != 0 {
-        return Counts {
-            answer: refused,
+    match acceptance::accept(list, rx.len()) {
+        Ok(accepted) => run_accepted(&accepted, readings, rx, log),
+        Err(cause) => Counts {
+            answer: u32::from(cause),
             calls: 0,
             used: 0,
             made: 0,
             got: 0,
-        };
+        },
     }
-    run_accepted(list, readings, rx, log)
 }
 
 // The run for hosts: the answer and the four counts, in the order returned, go to `counts`.

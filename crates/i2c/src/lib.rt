@@ -4,12 +4,11 @@
 ghost use Rattle.std.specs.Prelude.{[], ◌∷◌, ◌<◌};
 ghost use Rattle.registers.specs.Word.{none, one, START, STOP};
 ghost use Rattle.registers.specs.Machine.{Step, bring_up, reset, send_start};
-ghost use Rattle.registers.specs.Access.{wDR};
-ghost use Rattle.registers.specs.Contract.{Writes, DoesWith, Does};
+ghost use Rattle.registers.specs.declared.WriteCode.{WriteCode};
+ghost use Rattle.registers.specs.Contract.{Writes, Does};
 ghost use Rattle.i2c.specs.Polling.{address_byte};
 
-use registers::{Bits, Outcome, Progress, modify_cr1, write};
-use units::Setup;
+use registers::{Bits, Bus, Stop, WriteCode};
 
 // The operation before, in a call.
 #[derive(Clone, Copy)]
@@ -20,78 +19,61 @@ pub enum Previous {
 }
 
 // The speed words, then PE.
-pub fn init(readings: &[u32], log: &mut [u32], progress: Progress, setup: Setup) -> Outcome
-    ensures { DoesWith setup (bring_up setup) readings log progress result }
+#[inline(always)]
+pub fn init(bus: &mut Bus) -> Result<(), Stop>
+    ensures { Does (bring_up bus.old.setup) bus.old bus.new result }
 {
-    let a = write(log, progress, registers::W_CR2, setup.cr2);
-    let Outcome::Well(progress1) = a else {
-        return a;
-    };
-    let b = write(log, progress1, registers::W_TRISE, setup.trise);
-    let Outcome::Well(progress2) = b else {
-        return b;
-    };
-    let c = write(log, progress2, registers::W_CCR, setup.ccr);
-    let Outcome::Well(progress3) = c else {
-        return c;
-    };
-    modify_cr1(readings, log, progress3, Bits(registers::PE, 0), Bits(0, 0))
+    let setup = bus.setup;
+    bus.write(WriteCode::Cr2, setup.cr2)?;
+    bus.write(WriteCode::Trise, setup.trise)?;
+    bus.write(WriteCode::Ccr, setup.ccr)?;
+    bus.modify_cr1(Bits(registers::PE, 0), Bits(0, 0))
 }
 
 // Software reset (SWRST and PE, then 0), then bring-up.
-pub fn reset(readings: &[u32], log: &mut [u32], progress: Progress, setup: Setup) -> Outcome
-    ensures { DoesWith setup (reset setup) readings log progress result }
+#[inline(always)]
+pub fn reset(bus: &mut Bus) -> Result<(), Stop>
+    ensures { Does (reset bus.old.setup) bus.old bus.new result }
 {
-    let a = write(log, progress, registers::W_CR1, 0x8001);
-    let Outcome::Well(progress1) = a else {
-        return a;
-    };
-    let b = write(log, progress1, registers::W_CR1, 0);
-    let Outcome::Well(progress2) = b else {
-        return b;
-    };
-    init(readings, log, progress2, setup)
+    bus.write(WriteCode::Cr1, 0x8001)?;
+    bus.write(WriteCode::Cr1, 0)?;
+    init(bus)
 }
 
 // Clear all pending error bits, then set these bits of CR1, START among them.
-pub fn request_start(readings: &[u32], log: &mut [u32], progress: Progress, on: Bits) -> Outcome
+#[inline(always)]
+pub fn request_start(bus: &mut Bus, on: Bits) -> Result<(), Stop>
     requires { (on.0 < 65536) × (on.1 < 65536) }
-    ensures { Does (send_start on) readings log progress result }
+    ensures { Does (send_start on) bus.old bus.new result }
 {
-    let a = write(log, progress, registers::W_SR1, 0);
-    let Outcome::Well(next) = a else {
-        return a;
-    };
-    modify_cr1(readings, log, next, on, Bits(0, 0))
+    bus.write(WriteCode::Sr1, 0)?;
+    bus.modify_cr1(on, Bits(0, 0))
 }
 
 // Generate START condition.
-pub fn send_start(readings: &[u32], log: &mut [u32], progress: Progress) -> Outcome
-    ensures { Does (send_start (one START)) readings log progress result }
+#[inline(always)]
+pub fn send_start(bus: &mut Bus) -> Result<(), Stop>
+    ensures { Does (send_start (one START)) bus.old bus.new result }
 {
-    request_start(readings, log, progress, Bits(registers::START, 0))
+    request_start(bus, Bits(registers::START, 0))
 }
 
 // Sends the (7-bit) address. The last bit of the byte is set for a read.
-pub fn send_addr(log: &mut [u32], progress: Progress, addr: u16, read: bool) -> Outcome
-    ensures { Writes wDR (address_byte addr read) log progress result }
+#[inline(always)]
+pub fn send_addr(bus: &mut Bus, addr: u16, read: bool) -> Result<(), Stop>
+    ensures { Writes WriteCode.Dr (address_byte addr read) bus.old bus.new result }
 {
-    let byte = 2 * (addr as u32);
+    let byte = 2 * u32::from(addr);
     if read {
-        return write(log, progress, registers::W_DR, byte + 1);
+        return bus.write(WriteCode::Dr, byte + 1);
     }
-    write(log, progress, registers::W_DR, byte)
+    bus.write(WriteCode::Dr, byte)
 }
 
 // Generate STOP condition.
-pub fn send_stop(readings: &[u32], log: &mut [u32], progress: Progress) -> Outcome
-    ensures { Does (Step.modify (one STOP) none ∷ []) readings log progress result }
+#[inline(always)]
+pub fn send_stop(bus: &mut Bus) -> Result<(), Stop>
+    ensures { Does (Step.modify (one STOP) none ∷ []) bus.old bus.new result }
 {
-    modify_cr1(
-        readings,
-        log,
-        progress,
-        Bits(registers::STOP, 0),
-        Bits(0, 0),
-    )
+    bus.modify_cr1(Bits(registers::STOP, 0), Bits(0, 0))
 }

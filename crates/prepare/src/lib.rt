@@ -2,7 +2,7 @@
 #![tactic(auto)]
 
 ghost use Rattle.std.specs.Prelude.{◌≡◌, Bool, cond, []};
-ghost use Rattle.registers.specs.Access.{wDR};
+ghost use Rattle.registers.specs.declared.WriteCode.{WriteCode};
 ghost use Rattle.registers.specs.Contract.{Writes, Does};
 ghost use Rattle.i2c.specs.Polling.{address_byte, first_byte, send_low_byte, request_write, address_write, prepare_write, start_read, repeat_start, request_read, address_read, prepare_read};
 ghost use Rattle.prepare.specs.Turn.{sends_write, sends_read, turn_to};
@@ -10,25 +10,17 @@ ghost use Rattle.prepare.specs.Turn.{sends_write, sends_read, turn_to};
 use buslist::Address;
 use checks::{check_master, check_twice, check_until, until_flag, until_master, until_stop_clear};
 use i2c::{Previous, request_start, send_addr, send_start};
-use registers::{Bits, Outcome, Progress, Source, get, modify_cr1, write};
+use registers::{Bits, Bus, ReadCode, Source, Stop, WriteCode};
 
 // Sends START and waits until we are master.
-fn request_write(readings: &[u32], log: &mut [u32], progress: Progress) -> Outcome
-    ensures { Does request_write readings log progress result }
+#[inline(always)]
+fn request_write(bus: &mut Bus) -> Result<(), Stop>
+    ensures { Does request_write bus.old bus.new result }
 {
-    let a = until_stop_clear(readings, log, progress);
-    let Outcome::Well(progress1) = a else {
-        return a;
-    };
-    let b = send_start(readings, log, progress1);
-    let Outcome::Well(progress2) = b else {
-        return b;
-    };
-    let c = check_until(readings, log, progress2, registers::SB, Source::Unknown);
-    let Outcome::Well(progress3) = c else {
-        return c;
-    };
-    check_master(readings, log, progress3)
+    until_stop_clear(bus)?;
+    send_start(bus)?;
+    check_until(bus, registers::SB, Source::Unknown)?;
+    check_master(bus)
 }
 
 // What goes out first for an address: a seven-bit one itself, or 11110 in binary and the two high bits of a ten-bit one.
@@ -42,132 +34,93 @@ fn first_number(addr: Address) -> u16
 }
 
 // Sends the byte after START: the address, or the header of a ten-bit one.
-fn send_first_byte(log: &mut [u32], progress: Progress, addr: Address, read: bool) -> Outcome
-    ensures { Writes wDR (first_byte addr read) log progress result }
+#[inline(always)]
+fn send_first_byte(bus: &mut Bus, addr: Address, read: bool) -> Result<(), Stop>
+    ensures { Writes WriteCode.Dr (first_byte addr read) bus.old bus.new result }
 {
-    send_addr(log, progress, first_number(addr), read)
+    send_addr(bus, first_number(addr), read)
 }
 
 // Sends the low byte of a ten-bit address, once its header is acknowledged.
-fn send_low_byte(readings: &[u32], log: &mut [u32], progress: Progress, addr: Address) -> Outcome
-    ensures { Does (send_low_byte addr) readings log progress result }
+#[inline(always)]
+fn send_low_byte(bus: &mut Bus, addr: Address) -> Result<(), Stop>
+    ensures { Does (send_low_byte addr) bus.old bus.new result }
 {
     let Address::Ten(address) = addr else {
-        return Outcome::Well(progress);
+        return Ok(());
     };
-    let a = check_until(readings, log, progress, registers::ADD10, Source::Address);
-    let Outcome::Well(next) = a else {
-        return a;
-    };
-    write(log, next, registers::W_DR, address as u32 % 256)
+    check_until(bus, registers::ADD10, Source::Address)?;
+    bus.write(WriteCode::Dr, address as u32 % 256)
 }
 
 // Sends the address for writing and waits for its acknowledge.
-fn address_write(readings: &[u32], log: &mut [u32], progress: Progress, addr: Address) -> Outcome
-    ensures { Does (address_write addr) readings log progress result }
+#[inline(always)]
+fn address_write(bus: &mut Bus, addr: Address) -> Result<(), Stop>
+    ensures { Does (address_write addr) bus.old bus.new result }
 {
-    let a = send_first_byte(log, progress, addr, false);
-    let Outcome::Well(progress1) = a else {
-        return a;
-    };
-    let b = send_low_byte(readings, log, progress1, addr);
-    let Outcome::Well(progress2) = b else {
-        return b;
-    };
-    let c = check_until(readings, log, progress2, registers::ADDR, Source::Address);
-    let Outcome::Well(progress3) = c else {
-        return c;
-    };
-    get(readings, log, progress3, registers::SR2)
+    send_first_byte(bus, addr, false)?;
+    send_low_byte(bus, addr)?;
+    check_until(bus, registers::ADDR, Source::Address)?;
+    bus.get(ReadCode::Sr2)
 }
 
 // Sends START and address for writing.
-fn prepare_write(readings: &[u32], log: &mut [u32], progress: Progress, addr: Address) -> Outcome
-    ensures { Does (prepare_write addr) readings log progress result }
+#[inline(always)]
+fn prepare_write(bus: &mut Bus, addr: Address) -> Result<(), Stop>
+    ensures { Does (prepare_write addr) bus.old bus.new result }
 {
-    let a = request_write(readings, log, progress);
-    let Outcome::Well(next) = a else {
-        return a;
-    };
-    address_write(readings, log, next, addr)
+    request_write(bus)?;
+    address_write(bus, addr)
 }
 
 // Sends START with ACK set, and waits until we are master.
-fn start_read(readings: &[u32], log: &mut [u32], progress: Progress) -> Outcome
-    ensures { Does start_read readings log progress result }
+#[inline(always)]
+fn start_read(bus: &mut Bus) -> Result<(), Stop>
+    ensures { Does start_read bus.old bus.new result }
 {
-    let a = until_stop_clear(readings, log, progress);
-    let Outcome::Well(progress1) = a else {
-        return a;
-    };
-    let b = request_start(
-        readings,
-        log,
-        progress1,
-        Bits(registers::START, registers::ACK),
-    );
-    let Outcome::Well(progress2) = b else {
-        return b;
-    };
-    let c = until_flag(readings, log, progress2, registers::SB);
-    let Outcome::Well(progress3) = c else {
-        return c;
-    };
-    until_master(readings, log, progress3)
+    until_stop_clear(bus)?;
+    request_start(bus, Bits(registers::START, registers::ACK))?;
+    until_flag(bus, registers::SB)?;
+    until_master(bus)
 }
 
 // Sends START again, with ACK set, in a ten-bit call that was prepared for writing and is to read.
-fn repeat_start(readings: &[u32], log: &mut [u32], progress: Progress) -> Outcome
-    ensures { Does repeat_start readings log progress result }
+#[inline(always)]
+fn repeat_start(bus: &mut Bus) -> Result<(), Stop>
+    ensures { Does repeat_start bus.old bus.new result }
 {
-    let on = Bits(registers::START, registers::ACK);
-    let a = modify_cr1(readings, log, progress, on, Bits(0, 0));
-    let Outcome::Well(next) = a else {
-        return a;
-    };
-    until_flag(readings, log, next, registers::SB)
+    bus.modify_cr1(Bits(registers::START, registers::ACK), Bits(0, 0))?;
+    until_flag(bus, registers::SB)
 }
 
 // The request for a read, with the first START or with START again.
-fn request_read(readings: &[u32], log: &mut [u32], progress: Progress, again: bool) -> Outcome
-    ensures { Does (request_read again) readings log progress result }
+#[inline(always)]
+fn request_read(bus: &mut Bus, again: bool) -> Result<(), Stop>
+    ensures { Does (request_read again) bus.old bus.new result }
 {
     if again {
-        return repeat_start(readings, log, progress);
+        return repeat_start(bus);
     }
-    start_read(readings, log, progress)
+    start_read(bus)
 }
 
 // Sends the address for reading and waits for its acknowledge.
-fn address_read(readings: &[u32], log: &mut [u32], progress: Progress, addr: Address) -> Outcome
-    ensures { Does (address_read addr) readings log progress result }
+#[inline(always)]
+fn address_read(bus: &mut Bus, addr: Address) -> Result<(), Stop>
+    ensures { Does (address_read addr) bus.old bus.new result }
 {
-    let a = send_first_byte(log, progress, addr, true);
-    let Outcome::Well(progress1) = a else {
-        return a;
-    };
-    let b = check_twice(readings, log, progress1, registers::ADDR, Source::Address);
-    let Outcome::Well(progress2) = b else {
-        return b;
-    };
-    get(readings, log, progress2, registers::SR2)
+    send_first_byte(bus, addr, true)?;
+    check_twice(bus, registers::ADDR, Source::Address)?;
+    bus.get(ReadCode::Sr2)
 }
 
 // Sends START and address for reading. `again`: a ten-bit address was just sent for writing.
-fn prepare_read(
-    readings: &[u32],
-    log: &mut [u32],
-    progress: Progress,
-    addr: Address,
-    again: bool,
-) -> Outcome
-    ensures { Does (prepare_read addr again) readings log progress result }
+#[inline(always)]
+fn prepare_read(bus: &mut Bus, addr: Address, again: bool) -> Result<(), Stop>
+    ensures { Does (prepare_read addr again) bus.old bus.new result }
 {
-    let a = request_read(readings, log, progress, again);
-    let Outcome::Well(next) = a else {
-        return a;
-    };
-    address_read(readings, log, next, addr)
+    request_read(bus, again)?;
+    address_read(bus, addr)
 }
 
 // Whether the address is sent for writing: for a write that follows no write, and for a read that a ten-bit call begins with.
@@ -195,61 +148,35 @@ fn sends_read(previous: Previous, read: bool) -> bool
     }
 }
 
-// Prepares for a write, where the address is to be sent for one.
-fn turn_write(
-    readings: &[u32],
-    log: &mut [u32],
-    progress: Progress,
-    addr: Address,
-    sends: bool,
-) -> Outcome
-    ensures { Does (cond sends (prepare_write addr) []) readings log progress result }
+// Prepares for a write, where the address is to be sent for one. One for each prepare, whose code then
+// stands once in the run, where it is inlined.
+#[inline(always)]
+fn turn_write(bus: &mut Bus, addr: Address, sends: bool) -> Result<(), Stop>
+    ensures { Does (cond sends (prepare_write addr) []) bus.old bus.new result }
 {
     if !sends {
-        return Outcome::Well(progress);
+        return Ok(());
     }
-    prepare_write(readings, log, progress, addr)
+    prepare_write(bus, addr)
 }
 
 // Prepares for a read, where the address is to be sent for one.
-fn turn_read(
-    readings: &[u32],
-    log: &mut [u32],
-    progress: Progress,
-    addr: Address,
-    sends: bool,
-    again: bool,
-) -> Outcome
-    ensures { Does (cond sends (prepare_read addr again) []) readings log progress result }
+#[inline(always)]
+fn turn_read(bus: &mut Bus, addr: Address, sends: bool, again: bool) -> Result<(), Stop>
+    ensures { Does (cond sends (prepare_read addr again) []) bus.old bus.new result }
 {
     if !sends {
-        return Outcome::Well(progress);
+        return Ok(());
     }
-    prepare_read(readings, log, progress, addr, again)
+    prepare_read(bus, addr, again)
 }
 
-// Prepares for an operation of a call, after the operation `previous`. Each prepare is called from one place, so that it is inlined.
-pub fn turn(
-    readings: &[u32],
-    log: &mut [u32],
-    progress: Progress,
-    addr: Address,
-    previous: Previous,
-    read: bool,
-) -> Outcome
-    ensures { Does (turn_to addr previous read) readings log progress result }
+// Prepares for an operation of a call, after the operation `previous`.
+#[inline(always)]
+pub fn turn(bus: &mut Bus, addr: Address, previous: Previous, read: bool) -> Result<(), Stop>
+    ensures { Does (turn_to addr previous read) bus.old bus.new result }
 {
     let written = sends_write(addr, previous, read);
-    let a = turn_write(readings, log, progress, addr, written);
-    let Outcome::Well(next) = a else {
-        return a;
-    };
-    turn_read(
-        readings,
-        log,
-        next,
-        addr,
-        sends_read(previous, read),
-        written,
-    )
+    turn_write(bus, addr, written)?;
+    turn_read(bus, addr, sends_read(previous, read), written)
 }

@@ -7,14 +7,17 @@ use mathlib.Core.Path.{◌≡◌, refl, ap, subst, ◌∙◌}
 use mathlib.Core.List.{List, [], ◌∷◌, ◌++◌}
 use lib.ListN.{length, get_or, length-set, drop_of_length-le}
 use lib.Seq.{drop-drop, drop-cons}
-use borrow.Author.Tests.{eq-eqb, ne_eqb, eqb-true, leb-false}
+use borrow.Author.Tests.{ne_eqb, eqb-true, leb-false}
 use Rattle.units.specs.declared.Setup.{Setup}
 use Rattle.registers.specs.declared.Progress.{Progress}
+use Rattle.registers.specs.declared.ReadCode.{ReadCode}
+use Rattle.registers.specs.declared.WriteCode.{WriteCode}
 use Rattle.registers.specs.declared.BusError.{BusError}
 use Rattle.registers.specs.declared.Cut.{Cut}
 use Rattle.registers.specs.declared.Entry.{Entry}
 use Rattle.registers.specs.Access.{is_read, is_data, cut, CYC, DR, store, entries_in, Ending, Access}
 use Rattle.registers.specs.Machine.{Step, Act, access, next, exec, exec_on, exec_full, perform, no_room}
+use Rattle.registers.specs.Contract.{read_code, write_code}
 use Rattle.registers.specs.State.{State, After, Took, at, going, word, then, taking, entry, recorded, received, replay, room, left, after, resume, read_one, read, write_one, write}
 
 pub length-store : (lg : List ℕ) (k : ℕ) (e : Entry) → length (store lg k e) ≡ length lg
@@ -169,13 +172,33 @@ module _ (rs lg rx : List ℕ) (b : Progress) where
       let n : entries_in (length lg) - b.made ≡ suc (entries_in (length lg) - b.made - 1) = omega arith in
       rw (n, t, f)
 
-pub cut_cycles : (c w : ℕ) → c ≡ CYC → w < 2 ^ 32 → w ≡ cut c w
-unfolding cut
-cut_cycles c w e h = rw (eq-eqb c CYC e) (omega arith)
+-- the codes, and the cut of a reading
+pub reads_code : (c : ReadCode) → is_read (read_code c) ≡ true
+reads_code ReadCode.Sr1 = refl
+reads_code ReadCode.Sr2 = refl
+reads_code ReadCode.Cr1 = refl
+reads_code ReadCode.Dr = refl
+reads_code ReadCode.Cyc = refl
 
-pub cut_register : (c w : ℕ) → (c ≡ CYC → ⊥) → w % 65536 ≡ cut c w
+pub writes_code : (c : WriteCode) → is_read (write_code c) ≡ false
+writes_code WriteCode.Cr1 = refl
+writes_code WriteCode.Cr2 = refl
+writes_code WriteCode.Ccr = refl
+writes_code WriteCode.Trise = refl
+writes_code WriteCode.Sr1 = refl
+writes_code WriteCode.Dr = refl
+
+pub cut_cycles : (c : ReadCode) (w : ℕ) → c ≡ ReadCode.Cyc → w < 2 ^ 32 → w ≡ cut (read_code c) w
 unfolding cut
-cut_register c w e = rw (ne_eqb c CYC e)
+cut_cycles c w e h = rw e (omega arith)
+
+pub cut_register : (c : ReadCode) (w : ℕ) → (c ≡ ReadCode.Cyc → ⊥) → w % 65536 ≡ cut (read_code c) w
+unfolding cut
+cut_register ReadCode.Sr1 w h = refl
+cut_register ReadCode.Sr2 w h = refl
+cut_register ReadCode.Cr1 w h = refl
+cut_register ReadCode.Dr w h = refl
+cut_register ReadCode.Cyc w h = absurd (h refl)
 
 -- the bytes received are at most the readings used
 abbrev pub Fewer : State → Type 0

@@ -1,210 +1,253 @@
 -- How a function's answer carries the run on: where it is a word or well, to what is left of the steps; where not, to the end.
 -- Assumes nothing.
-use Prim.Native.Nat.{ℕ, zero, suc, ◌+◌, ◌≤◌, ◌<◌}
-use native.Mathlib.Omega.{arith}
-use mathlib.Core.Bool.{true, false}
-use mathlib.Core.Path.{◌≡◌, refl, sym, ap, ◌∙◌}
-use mathlib.Core.List.{List, [], ◌∷◌, ◌++◌, append_assoc, append-nil}
+use Prim.Native.Nat.{ℕ, zero, suc, ◌+◌, ◌<◌}
 use lib.ListN.{length, drop, length-drop}
-use lib.Dec.{eqb}
-use Rattle.units.specs.declared.Setup.{Setup}
 use Rattle.registers.specs.declared.Progress.{Progress}
+use native.Mathlib.Omega.{arith}
+use mathlib.Core.Bool.{false}
+use mathlib.Core.Path.{◌≡◌, refl, sym, ap, subst, ◌∙◌}
+use mathlib.Core.List.{List, [], ◌∷◌, ◌++◌, append_assoc}
+use lib.Dec.{eqb}
+use Rattle.std.specs.Prelude.{Result, Ok, Err, IsErr, IsErrAnd, ⊤}
+use Rattle.units.specs.declared.Setup.{Setup}
 use Rattle.registers.specs.declared.BusError.{BusError}
 use Rattle.registers.specs.declared.Cut.{Cut}
-use Rattle.registers.specs.declared.Taken.{Taken}
-use Rattle.registers.specs.declared.Outcome.{Outcome}
-use Rattle.registers.specs.Access.{CYC, DR, is_read, is_data, cut, Access}
+use Rattle.registers.specs.declared.ReadCode.{ReadCode}
+use Rattle.registers.specs.declared.WriteCode.{WriteCode}
+use Rattle.registers.specs.declared.Stop.{Stop}
+use Rattle.registers.specs.declared.access.Bus.{Bus}
+use Rattle.registers.specs.Access.{CYC, DR, cut, is_data, Access}
 use Rattle.registers.specs.Machine.{Step, Handler, handle, Act, access, next}
-use Rattle.registers.specs.State.{State, After, Took, at, then, taking, entry, recorded, received, room, left, resume, read_one, read}
-use Rattle.registers.specs.Contract.{outcome, taken, outcome_of, handled, ReadsFrom, WritesFrom, Refines, Reaches, WaitsFrom}
-use Rattle.registers.proofs.Laws.{read_law, write_law, fail_law, done_law, received_other, read-room, resume_fewer}
+use Rattle.registers.specs.State.{State, After, Took, Found, at, then, taking, finding, entry, received, recorded, left, room, resume, read_one, read}
+use Rattle.registers.specs.Contract.{read_code, write_code, state, Same, outcome, found, found_of, handled, Reads, Writes, Does, Reaches, Waits}
+use Rattle.registers.proofs.Laws.{read_law, write_law, fail_law, received_other, read-room, reads_code, writes_code}
 
--- an outcome that is not well, and one that is no bus error
-abbrev pub NotWell : Outcome → Type 0
-NotWell o = (b : Progress) → o ≡ Outcome.Well b → ⊥
+-- the same run still, after nothing and after one thing and then another
+pub same_bus : {b : Bus} → Same b b
+same_bus = record { setup = refl; readings = refl; log = refl; rx = refl }
 
-abbrev pub NotFailed : Outcome → Type 0
-NotFailed o = (e : BusError) (b : Progress) → o ≡ Outcome.Failed e b → ⊥
+pub same_then : {b b₁ b₂ : Bus} → Same b b₁ → Same b₁ b₂ → Same b b₂
+same_then x y =
+    record {
+      setup = y.setup ∙ x.setup;
+      readings = y.readings ∙ x.readings;
+      log = y.log ∙ x.log;
+      rx = y.rx ∙ x.rx;
+    }
 
-not_well : (o : Outcome) → NotWell o → (rs lg rx : List ℕ) (k k' : State → After)
-    → then (outcome rs lg rx o) k ≡ then (outcome rs lg rx o) k'
-not_well (Outcome.Well b) h rs lg rx k k' = absurd (h b refl)
-not_well (Outcome.Failed e b) h rs lg rx k k' = refl
-not_well (Outcome.CutShort c b) h rs lg rx k k' = refl
+-- steps of the setup that the run began with
+pub at_setup : {b b₁ b₂ : Bus} {r : Result ⊤ Stop} → Same b b₁ → (q : Setup → List Step) → Does (q b₁.setup) b₁ b₂ r → Does (q b.setup) b₁ b₂ r
+at_setup {b₁ = b₁} {b₂} {r} x q y = subst (λ (s : Setup). Does (q s) b₁ b₂ r) x.setup y
+
+pub waits_at_setup : {h : Handler} {b b₁ b₂ : Bus} {r : Result ⊤ Stop} → Same b b₁ → (q : Setup → List Step) → Waits h (q b₁.setup) b₁ b₂ r → Waits h (q b.setup) b₁ b₂ r
+waits_at_setup {h} {b₁ = b₁} {b₂} {r} x q y = subst (λ (s : Setup). Waits h (q s) b₁ b₂ r) x.setup y
 
 -- from here on
-pub here : {s : Setup} {q : List Step} {st : State} → Reaches s q st q st
-here = record { is = λ p. refl }
+pub here : {q : List Step} {b : Bus} → Reaches q b q b
+here = record { same = same_bus; is = λ p. refl }
 
 -- the steps that are left, written otherwise
-pub rewritten : {s : Setup} {q : List Step} {st : State} {q₁ q₂ : List Step} {st₁ : State} → q₁ ≡ q₂ → Reaches s q st q₁ st₁ → Reaches s q st q₂ st₁
+pub rewritten : {q : List Step} {b : Bus} {q₁ q₂ : List Step} {b₁ : Bus} → q₁ ≡ q₂ → Reaches q b q₁ b₁ → Reaches q b q₂ b₁
 rewritten e g = rw e at g
 
+-- an error that `?` hands on
+abbrev pub HandsOn : {T : Type 0} → Stop → Result T Stop → Type 0
+HandsOn stop r = IsErr r × IsErrAnd r (λ e. e ≡ stop)
+
+pub handed_on : {T : Type 0} (r : Result T Stop) {stop : Stop} → HandsOn stop r → r ≡ Err stop
+handed_on (Ok t) h = absurd h.1
+handed_on (Err e) h = ap Err h.1
+
+-- a stop is no going on
+stopped : (stop : Stop) (st : State) (k k' : State → After) → then (outcome st (Err stop)) k ≡ then (outcome st (Err stop)) k'
+stopped (Stop.Failed e) st k k' = refl
+stopped (Stop.CutShort c) st k k' = refl
+
+-- a read's answer says what the machine's read came to
+abbrev as_took : Found → Took
+as_took (Found.word v st) = Took.word v st
+as_took (Found.failed e st) = Took.cut_short Cut.NoReadings st
+as_took (Found.cut_short c st) = Took.cut_short c st
+
+as_found : (t : Took) → as_took (found_of t) ≡ t
+as_found (Took.word v st) = refl
+as_found (Took.cut_short c st) = refl
+
+pub read_word : {c : ReadCode} {b b' : Bus} {r : Result ℕ Stop} {v : ℕ} → Reads c b b' r → r ≡ Ok v → read (read_code c) (state b) ≡ Took.word v (state b')
+read_word {c} {b} {b'} {r} {v} x e = sym (as_found (read (read_code c) (state b))) ∙ ap as_took (sym x.is) ∙ rw e
+
+-- it is no bus error
+unfailed : (t : Took) {e : BusError} {st : State} → Found.failed e st ≡ found_of t → ⊥
+unfailed (Took.word v st) h = let z : ◌≡◌ {A = ℕ} 0 1 = cc in omega arith
+unfailed (Took.cut_short c st) h = let z : ◌≡◌ {A = ℕ} 0 1 = cc in omega arith
+
+pub read_unfailed : {c : ReadCode} {b b' : Bus} {r : Result ℕ Stop} {e : BusError} → Reads c b b' r → r ≡ Err (Stop.Failed e) → ⊥
+read_unfailed {c} {b} {b'} {r} {e} x k = unfailed (read (read_code c) (state b)) (ap (found (state b')) (sym k) ∙ x.is)
+
+pub read_cut : {c : ReadCode} {b b' : Bus} {r : Result ℕ Stop} {k : Cut} → Reads c b b' r → r ≡ Err (Stop.CutShort k) → read (read_code c) (state b) ≡ Took.cut_short k (state b')
+read_cut {c} {b} {b'} {r} {k} x e = sym (as_found (read (read_code c) (state b))) ∙ ap as_took (sym x.is) ∙ rw e
+
+taking_found : (t : Took) (k : ℕ → State → After) → taking t k ≡ finding (found_of t) k
+taking_found (Took.word v st) k = refl
+taking_found (Took.cut_short c st) k = refl
+
 -- a read that is no DR read, for the step i
-module _ {s : Setup} {q : List Step} {st : State} {i : Step} {q₁ : List Step} {st₁ : State} (g : Reaches s q st (i ∷ q₁) st₁)
-    {c : ℕ} {rs lg rx : List ℕ} {r : Taken} (x : ReadsFrom c st₁ rs lg rx r) (a : access i ≡ Act.make (Access.read c)) (t : is_read c ≡ true) where
-  pub read_step : is_data c ≡ false → {v : ℕ} {b : Progress} → r ≡ Taken.Word v b → {m : List Step} → next s i v ≡ m → Reaches s q st (m ++ q₁) (at rs lg rx b)
-  read_step u {v} {b} e {m} n =
-      record { is = λ p. g.is p ∙ read_law s i c (q₁ ++ p) st₁ a t ∙ rw (← x.is, e, received_other (entry c v) (at rs lg rx b) u, n, append_assoc m q₁ p) }
+module _ {q : List Step} {b : Bus} {i : Step} {q₁ : List Step} {b₁ : Bus} (g : Reaches q b (i ∷ q₁) b₁)
+    {c : ReadCode} {b₂ : Bus} {r : Result ℕ Stop} (x : Reads c b₁ b₂ r) (a : access i ≡ Act.make (Access.read (read_code c))) where
+  -- what is still to come after it
+  abbrev onward_read : (p : List Step) → ℕ → State → After
+  onward_read p v st = resume b.setup (next b.setup i v ++ (q₁ ++ p)) (received (entry (read_code c) v) st)
 
-  pub read_stops : {k : Cut} {b : Progress} → r ≡ Taken.CutShort k b → Refines s q st rs lg rx (outcome_of r)
-  read_stops e = record { is = λ p. g.is p ∙ read_law s i c (q₁ ++ p) st₁ a t ∙ rw (← x.is, e) }
+  onward : (p : List Step) → resume b.setup (q ++ p) (state b) ≡ finding (found (state b₂) r) (onward_read p)
+  onward p =
+      g.is p ∙ read_law b.setup i (read_code c) (q₁ ++ p) (state b₁) a (reads_code c)
+      ∙ taking_found (read (read_code c) (state b₁)) (onward_read p) ∙ ap (λ (f : Found). finding f (onward_read p)) (sym x.is)
 
--- a write
-module _ {s : Setup} {q : List Step} {st : State} {c v : ℕ} {q₁ : List Step} {st₁ : State} (g : Reaches s q st (Step.put c v ∷ q₁) st₁)
-    {rs lg rx : List ℕ} {o : Outcome} (x : WritesFrom c v st₁ rs lg rx o) (t : is_read c ≡ false) where
-  pub write_step : {b : Progress} → o ≡ Outcome.Well b → Reaches s q st q₁ (at rs lg rx b)
-  write_step e = record { is = λ p. g.is p ∙ write_law s c v (q₁ ++ p) st₁ t ∙ rw (← x.is, e) }
+  pub read_step : is_data (read_code c) ≡ false → {v : ℕ} → r ≡ Ok v → {m : List Step} → next b.setup i v ≡ m → Reaches q b (m ++ q₁) b₂
+  read_step u {v} e {m} n =
+      record { same = same_then g.same x.same; is = λ p. onward p ∙ rw (e, received_other (entry (read_code c) v) (state b₂) u, n, append_assoc m q₁ p) }
 
-  pub write_stops : NotWell o → Refines s q st rs lg rx o
-  write_stops h = record { is = λ p. g.is p ∙ write_law s c v (q₁ ++ p) st₁ t ∙ rw (← x.is) (not_well o h rs lg rx _ _) }
+  pub read_stops : {stop : Stop} {r' : Result ⊤ Stop} → r ≡ Err stop → HandsOn stop r' → Does q b b₂ r'
+  read_stops {stop} {r'} e h =
+      record { same = same_then g.same x.same; is = λ p. onward p ∙ rw (e, handed_on r' h) (go stop (onward_read p) (resume b.setup p)) }
+    where
+      go : (stop : Stop) (k : ℕ → State → After) (k' : State → After) → finding (found (state b₂) (Err stop)) k ≡ then (outcome (state b₂) (Err stop)) k'
+      go (Stop.Failed e) k k' = refl
+      go (Stop.CutShort c) k k' = refl
+
+-- a write is its step
+pub write_does : {c : WriteCode} {v : ℕ} {b b' : Bus} {r : Result ⊤ Stop} → Writes c v b b' r → Does (Step.put (write_code c) v ∷ []) b b' r
+write_does {c} {v} {b} x = record { same = x.same; is = λ p. write_law b.setup (write_code c) v p (state b) (writes_code c) ∙ rw (← x.is) }
 
 -- a call of a function that does the steps q₀
-module _ {s : Setup} {q₀ : List Step} {st₁ : State} {rs lg rx : List ℕ} {o : Outcome} (x : Refines s q₀ st₁ rs lg rx o)
-    (q₁ : List Step) {q : List Step} {st : State} (g : Reaches s q st (q₀ ++ q₁) st₁) where
-  pub call_step : {b : Progress} → o ≡ Outcome.Well b → Reaches s q st q₁ (at rs lg rx b)
-  call_step e = record { is = λ p. g.is p ∙ rw append_assoc (x.is (q₁ ++ p) ∙ rw e) }
+module _ {q₀ : List Step} {b₁ b₂ : Bus} {r : Result ⊤ Stop} (x : Does q₀ b₁ b₂ r) (q₁ : List Step) {q : List Step} {b : Bus} (g : Reaches q b (q₀ ++ q₁) b₁) where
+  onward_call : (p : List Step) → resume b.setup (q ++ p) (state b) ≡ then (outcome (state b₂) r) (resume b.setup (q₁ ++ p))
+  onward_call p = g.is p ∙ rw append_assoc (rw (← g.same.setup) (x.is (q₁ ++ p)))
 
-  pub call_stops : NotWell o → Refines s q st rs lg rx o
-  call_stops h = record { is = λ p. g.is p ∙ rw append_assoc (x.is (q₁ ++ p) ∙ not_well o h rs lg rx _ _) }
+  pub call_step : {t : ⊤} → r ≡ Ok t → Reaches q b q₁ b₂
+  call_step e = record { same = same_then g.same x.same; is = λ p. onward_call p ∙ rw e }
+
+  pub call_stops : {stop : Stop} {r' : Result ⊤ Stop} → r ≡ Err stop → HandsOn stop r' → Does q b b₂ r'
+  call_stops {stop} {r'} e h = record { same = same_then g.same x.same; is = λ p. onward_call p ∙ rw (e, handed_on r' h) (stopped stop _ _ _) }
+
+-- an outcome that is not well
+abbrev pub NotOk : Result ⊤ Stop → Type 0
+NotOk r = (t : ⊤) → r ≡ Ok t → ⊥
+
+-- a call that did not end well, whose outcome is the answer
+pub call_fails : {q₀ : List Step} {b₁ b₂ : Bus} {r : Result ⊤ Stop} → Does q₀ b₁ b₂ r → (q₁ : List Step) {q : List Step} {b : Bus} → Reaches q b (q₀ ++ q₁) b₁ → NotOk r → Does q b b₂ r
+call_fails {r = Ok t} x q₁ g h = absurd (h t refl)
+call_fails {r = Err stop} x q₁ g h = call_stops x q₁ g refl (refl, refl)
 
 -- the end
-pub ends_well : {s : Setup} {q : List Step} {st : State} {rs lg rx : List ℕ} {b : Progress} → Reaches s q st [] (at rs lg rx b) → Refines s q st rs lg rx (Outcome.Well b)
-ends_well g = record { is = λ p. g.is p }
+pub ends_well : {q : List Step} {b b₁ : Bus} {t : ⊤} → Reaches q b [] b₁ → Does q b b₁ (Ok t)
+ends_well g = record { same = g.same; is = λ p. g.is p }
 
-pub ends_failed : {s : Setup} {q : List Step} {st : State} {rs lg rx : List ℕ} {b : Progress} {e : BusError} {q₁ : List Step}
-    → Reaches s q st (Step.fail e ∷ q₁) (at rs lg rx b) → Refines s q st rs lg rx (Outcome.Failed e b)
-ends_failed {s} {e = e} {q₁} g = record { is = λ p. g.is p ∙ fail_law s e (q₁ ++ p) _ }
+pub ends_failed : {q : List Step} {b b₁ : Bus} {e : BusError} {q₁ : List Step} → Reaches q b (Step.fail e ∷ q₁) b₁ → Does q b b₁ (Err (Stop.Failed e))
+ends_failed {b = b} {e = e} {q₁ = q₁} g = record { same = g.same; is = λ p. g.is p ∙ fail_law b.setup e (q₁ ++ p) _ }
 
--- the last thing done is a read for its own sake, a write, or a call
-pub read_last : {s : Setup} {q : List Step} {st : State} {i : Step} {st₁ : State} (g : Reaches s q st (i ∷ []) st₁)
-    {c : ℕ} {rs lg rx : List ℕ} {r : Taken} (x : ReadsFrom c st₁ rs lg rx r) → access i ≡ Act.make (Access.read c) → is_read c ≡ true → is_data c ≡ false
-    → ((v : ℕ) → next s i v ≡ []) → Refines s q st rs lg rx (outcome_of r)
-read_last {s} {q} {st} {i} {st₁} g {c} {rs} {lg} {rx} {r} x a t u n = record { is = λ p. g.is p ∙ read_law s i c p st₁ a t ∙ rw (← x.is) (go p r) }
-  where
-    go : (p : List Step) (r : Taken)
-        → taking (taken rs lg rx r) (λ v st'. resume s (next s i v ++ p) (received (entry c v) st')) ≡ then (outcome rs lg rx (outcome_of r)) (resume s p)
-    go p (Taken.Word v b) = rw (n, received_other (entry c v) (at rs lg rx b) u)
-    go p (Taken.CutShort c b) = refl
-
-pub write_last : {s : Setup} {q : List Step} {st : State} {c v : ℕ} {st₁ : State} → Reaches s q st (Step.put c v ∷ []) st₁
-    → {rs lg rx : List ℕ} {o : Outcome} → WritesFrom c v st₁ rs lg rx o → is_read c ≡ false → Refines s q st rs lg rx o
-write_last {s} {q} {st} {c} {v} {st₁} g x t = record { is = λ p. g.is p ∙ write_law s c v p st₁ t ∙ rw (← x.is) }
-
-pub call_last : {s : Setup} {q : List Step} {st : State} {q₁ : List Step} {st₁ : State} → Reaches s q st q₁ st₁
-    → {rs lg rx : List ℕ} {o : Outcome} → Refines s q₁ st₁ rs lg rx o → Refines s q st rs lg rx o
-call_last g x = record { is = λ p. g.is p ∙ x.is p }
+-- the last thing done is a call
+pub call_last : {q : List Step} {b : Bus} {q₁ : List Step} {b₁ b₂ : Bus} {r : Result ⊤ Stop} → Reaches q b q₁ b₁ → Does q₁ b₁ b₂ r → Does q b b₂ r
+call_last g x = record { same = same_then g.same x.same; is = λ p. g.is p ∙ rw (← g.same.setup) (x.is p) }
 
 -- a read of DR: its low byte is received
-pub data_step : {s : Setup} {st : State} {rs lg rx : List ℕ} {r : Taken} → ReadsFrom DR st rs lg rx r → {v : ℕ} {b : Progress} → r ≡ Taken.Word v b
-    → {rx' : List ℕ} {b' : Progress} → received (entry DR v) (at rs lg rx b) ≡ at rs lg rx' b' → Refines s (Step.get DR ∷ []) st rs lg rx' (Outcome.Well b')
+pub data_step : {b b₁ : Bus} {v : ℕ} → Reads ReadCode.Dr b b₁ (Ok v) → {b₂ : Bus} → Same b b₂ → received (entry DR v) (state b₁) ≡ state b₂ → Does (Step.get DR ∷ []) b b₂ (Ok tt)
 unfolding next
-data_step {s} {st} x e f = record { is = λ p. read_law s (Step.get DR) DR p st refl refl ∙ rw (← x.is, e, f) }
+data_step {b} {b₁} {v} x y f =
+    record {
+      same = y;
+      is = λ p. onward {q = Step.get DR ∷ []} {i = Step.get DR} {q₁ = []} here x refl p ∙ rw f;
+    }
+
+-- an answer of a read or a check, with the state that it leaves
+abbrev state_of : Found → State
+state_of (Found.word v st) = st
+state_of (Found.failed e st) = st
+state_of (Found.cut_short c st) = st
+
+abbrev value_of : Found → ℕ
+value_of (Found.word v st) = v
+value_of (Found.failed e st) = 0
+value_of (Found.cut_short c st) = 0
+
+abbrev progress_of : State → Progress
+progress_of (at rs lg rx b) = b
 
 -- a word read leaves less room
-pub read_less : {c : ℕ} {st : State} {rs lg rx : List ℕ} {r : Taken} {v : ℕ} {b : Progress}
-    → ReadsFrom c st rs lg rx r → r ≡ Taken.Word v b → room (at rs lg rx b) < room st
-read_less {c} {st} {rs} {lg} {rx} x e = read-room c st (ap (taken rs lg rx) (sym e) ∙ x.is)
-
-abbrev value_of : Took → ℕ
-value_of (Took.word v st) = v
-value_of (Took.cut_short c st) = 0
+pub read_less : {c : ReadCode} {b b' : Bus} {r : Result ℕ Stop} {v : ℕ} → Reads c b b' r → r ≡ Ok v → room (state b') < room (state b)
+read_less {c} {b} {b'} {r} {v} x e = go (read (read_code c) (state b)) refl
+  where
+    go : (t : Took) → read (read_code c) (state b) ≡ t → room (state b') < room (state b)
+    go (Took.word w st) f =
+        let h : Found.word v (state b') ≡ Found.word w st = ap (found (state b')) (sym e) ∙ x.is ∙ ap found_of f in
+        rw (ap state_of h) (read-room (read_code c) (state b) (sym f))
+    go (Took.cut_short k st) f =
+        let h : Found.word v (state b') ≡ Found.cut_short k st = ap (found (state b')) (sym e) ∙ x.is ∙ ap found_of f in
+        let z : ◌≡◌ {A = ℕ} 0 1 = cc in absurd (omega arith)
 
 -- a register word is 16 bits wide
-pub read_small : {c : ℕ} {st : State} {rs lg rx : List ℕ} {r : Taken} {v : ℕ} {b : Progress}
-    → ReadsFrom c st rs lg rx r → eqb c CYC ≡ false → r ≡ Taken.Word v b → v < 65536
+pub read_small : {c : ReadCode} {b b' : Bus} {r : Result ℕ Stop} {v : ℕ} → Reads c b b' r → eqb (read_code c) CYC ≡ false → r ≡ Ok v → v < 65536
 unfolding read read_one cut
-read_small {c} {st} {rs} {lg} {rx} {r} {v} {b} x t e = go (left st) (room st) (ap (taken rs lg rx) (sym e) ∙ x.is)
+read_small {c} {b} {b'} {r} {v} x t e = go (left (state b)) (room (state b)) (ap (found (state b')) (sym e) ∙ x.is)
   where
-    go : (ws : List ℕ) (n : ℕ) → Took.word v (at rs lg rx b) ≡ read_one c st ws n → v < 65536
+    go : (ws : List ℕ) (n : ℕ) → Found.word v (state b') ≡ found_of (read_one (read_code c) (state b) ws n) → v < 65536
     go ws zero k = let z : ◌≡◌ {A = ℕ} 0 1 = cc in absurd (omega arith)
     go [] (suc n) k = let z : ◌≡◌ {A = ℕ} 0 1 = cc in absurd (omega arith)
     go (w ∷ ws) (suc n) k = omega (arith, (rw t at (ap value_of k)))
 
-abbrev progress_of : Took → Progress → Progress
-progress_of (Took.word v (at rs lg rx b)) d = b
-progress_of (Took.cut_short c st) d = d
-
 -- a read uses a reading that is there, and receives no byte by itself
-pub record Counted (rs : List ℕ) (b b' : Progress) : Type 0 where
-  pub there : b.used < length rs
-  pub used : b'.used ≡ b.used + 1
-  pub got : b'.got ≡ b.got
+pub record Counted (b b' : Bus) : Type 0 where
+  pub there : b.progress.used < length b.readings.now
+  pub used : b'.progress.used ≡ b.progress.used + 1
+  pub got : b'.progress.got ≡ b.progress.got
 
-pub read-counts : {c : ℕ} {rs lg rx : List ℕ} {b : Progress} {rs' lg' rx' : List ℕ} {r : Taken} {v : ℕ} {b' : Progress}
-    → ReadsFrom c (at rs lg rx b) rs' lg' rx' r → is_read c ≡ true → r ≡ Taken.Word v b' → Counted rs b b'
+pub read-counts : {c : ReadCode} {b b' : Bus} {r : Result ℕ Stop} {v : ℕ} → Reads c b b' r → r ≡ Ok v → Counted b b'
 unfolding read read_one recorded left
-read-counts {c} {rs} {lg} {rx} {b} {rs'} {lg'} {rx'} {r} {v} {b'} x t e =
-    go (left (at rs lg rx b)) (room (at rs lg rx b)) refl (ap (taken rs' lg' rx') (sym e) ∙ x.is)
+read-counts {c} {b} {b'} {r} {v} x e = go (left (state b)) (room (state b)) refl (ap (found (state b')) (sym e) ∙ x.is)
   where
-    go : (ws : List ℕ) (n : ℕ) → drop b.used rs ≡ ws → Took.word v (at rs' lg' rx' b') ≡ read_one c (at rs lg rx b) ws n → Counted rs b b'
+    go : (ws : List ℕ) (n : ℕ) → drop b.progress.used b.readings.now ≡ ws → Found.word v (state b') ≡ found_of (read_one (read_code c) (state b) ws n) → Counted b b'
     go ws zero l k = let z : ◌≡◌ {A = ℕ} 0 1 = cc in absurd (omega arith)
     go [] (suc n) l k = let z : ◌≡◌ {A = ℕ} 0 1 = cc in absurd (omega arith)
     go (w ∷ ws) (suc n) l k =
-        let e = ap (λ (z : Took). progress_of z b) k in
+        let e = ap (λ (z : Found). progress_of (state_of z)) k in
         record {
           there = omega (arith, simp length-drop at (ap length l));
-          used = rw t at (ap (λ (z : Progress). z.used) e);
+          used = rw (reads_code c) at (ap (λ (z : Progress). z.used) e);
           got = ap (λ (z : Progress). z.got) e;
         }
-
--- a setup, where a function keeps something at every one
-abbrev pub no_setup : Setup
-no_setup =
-    record {
-      cr2 = 0;
-      trise = 0;
-      ccr = 0;
-      start_retries = 0;
-      start_limit = record { 0 = 0 };
-      addr_limit = record { 0 = 0 };
-      data_limit = record { 0 = 0 };
-    }
-
--- a function that does steps keeps the bytes received at most the readings used
-pub keeps_fewer : {s : Setup} {q : List Step} {rs lg rx : List ℕ} {b : Progress} {rs' lg' rx' : List ℕ} {o : Outcome} {b' : Progress}
-    → Refines s q (at rs lg rx b) rs' lg' rx' o → o ≡ Outcome.Well b' → b.got ≤ b.used → b'.got ≤ b'.used
-keeps_fewer {s} {q} {rs} {lg} {rx} {b} {rs'} {lg'} {rx'} {o} {b'} x e h =
-    resume_fewer s q (at rs lg rx b) (at rs' lg' rx' b') (rw append-nil at (x.is []) ∙ rw (e, done_law)) h
 
 -- a timed wait
 
 -- its error is handled by ending the call
-pub waits_end : {s : Setup} {q : List Step} {st : State} {rs lg rx : List ℕ} {o : Outcome} → WaitsFrom s Handler.ends q st rs lg rx o → Refines s q st rs lg rx o
+pub waits_end : {q : List Step} {b b' : Bus} {r : Result ⊤ Stop} → Waits Handler.ends q b b' r → Does q b b' r
 unfolding handle
-waits_end {s} {q} {st} {rs} {lg} {rx} {o} x = record { is = λ p. x.is p ∙ go p o }
+waits_end {q} {b} {b'} {r} x = record { same = x.same; is = λ p. x.is p ∙ go p r }
   where
-    go : (p : List Step) (o : Outcome) → handled s Handler.ends rs lg rx o p ≡ then (outcome rs lg rx o) (resume s p)
-    go p (Outcome.Well b) = refl
-    go p (Outcome.Failed e b) = fail_law s e p (at rs lg rx b)
-    go p (Outcome.CutShort c b) = refl
+    go : (p : List Step) (r : Result ⊤ Stop) → handled b.setup Handler.ends (state b') r p ≡ then (outcome (state b') r) (resume b.setup p)
+    go p (Ok t) = refl
+    go p (Err (Stop.Failed e)) = fail_law b.setup e p (state b')
+    go p (Err (Stop.CutShort c)) = refl
 
--- it went well: on with what is left
-pub wait_step : {s : Setup} {h : Handler} {q₀ : List Step} {st₁ : State} {rs lg rx : List ℕ} {o : Outcome} → WaitsFrom s h q₀ st₁ rs lg rx o
-    → (q₁ : List Step) {q : List Step} {st : State} → Reaches s q st (q₀ ++ q₁) st₁ → {b : Progress} → o ≡ Outcome.Well b → Reaches s q st q₁ (at rs lg rx b)
-wait_step x q₁ g k = record { is = λ p. g.is p ∙ rw append_assoc (x.is (q₁ ++ p) ∙ rw k) }
+module _ {h : Handler} {q₀ : List Step} {b₁ b₂ : Bus} {r : Result ⊤ Stop} (x : Waits h q₀ b₁ b₂ r) (q₁ : List Step) {q : List Step} {b : Bus} (g : Reaches q b (q₀ ++ q₁) b₁) where
+  onward_wait : (p : List Step) → resume b.setup (q ++ p) (state b) ≡ handled b.setup h (state b₂) r (q₁ ++ p)
+  onward_wait p = g.is p ∙ rw append_assoc (rw (← g.same.setup) (x.is (q₁ ++ p)))
 
--- it failed: to the handler
-pub wait_fails : {s : Setup} {h : Handler} {q₀ : List Step} {st₁ : State} {rs lg rx : List ℕ} {o : Outcome} → WaitsFrom s h q₀ st₁ rs lg rx o
-    → (q₁ : List Step) {q : List Step} {st : State} → Reaches s q st (q₀ ++ q₁) st₁ → {e : BusError} {b : Progress} → o ≡ Outcome.Failed e b
-    → Reaches s q st (handle s h e ++ q₁) (at rs lg rx b)
-wait_fails {s} {h} {q₀} x q₁ g {e} k = record { is = λ p. g.is p ∙ rw (append_assoc q₀ q₁ p, append_assoc (handle s h e) q₁ p) (x.is (q₁ ++ p) ∙ rw k) }
+  -- it went well: on with what is left
+  pub wait_step : {t : ⊤} → r ≡ Ok t → Reaches q b q₁ b₂
+  wait_step e = record { same = same_then g.same x.same; is = λ p. onward_wait p ∙ rw e }
 
--- it is the last thing done, and did not fail
-pub wait_last : {s : Setup} {h : Handler} {q₀ : List Step} {st₁ : State} {rs lg rx : List ℕ} {o : Outcome} → WaitsFrom s h q₀ st₁ rs lg rx o
-    → {q : List Step} {st : State} → Reaches s q st q₀ st₁ → NotFailed o → Refines s q st rs lg rx o
-wait_last {s} {h} {q₀} {st₁} {rs} {lg} {rx} {o} x g k = record { is = λ p. g.is p ∙ x.is p ∙ go p o k }
-  where
-    go : (p : List Step) (o : Outcome) → NotFailed o → handled s h rs lg rx o p ≡ then (outcome rs lg rx o) (resume s p)
-    go p (Outcome.Well b) k = refl
-    go p (Outcome.Failed e b) k = absurd (k e b refl)
-    go p (Outcome.CutShort c b) k = refl
+  -- it failed: to the handler
+  pub wait_fails : {e : BusError} → r ≡ Err (Stop.Failed e) → Reaches q b (handle b.setup h e ++ q₁) b₂
+  wait_fails {e} k = record { same = same_then g.same x.same; is = λ p. onward_wait p ∙ rw (k, append_assoc (handle b.setup h e) q₁ p) }
+
+  -- it was cut short
+  pub wait_cut : {c : Cut} → r ≡ Err (Stop.CutShort c) → Does q b b₂ (Err (Stop.CutShort c))
+  wait_cut e = record { same = same_then g.same x.same; is = λ p. onward_wait p ∙ rw e }
 
 -- the last thing done is a wait
-pub waits_last : {s : Setup} {h : Handler} {q : List Step} {st : State} {q₁ : List Step} {st₁ : State} → Reaches s q st q₁ st₁
-    → {rs lg rx : List ℕ} {o : Outcome} → WaitsFrom s h q₁ st₁ rs lg rx o → WaitsFrom s h q st rs lg rx o
-waits_last g x = record { is = λ p. g.is p ∙ x.is p }
+pub waits_last : {h : Handler} {q : List Step} {b : Bus} {q₁ : List Step} {b₁ b₂ : Bus} {r : Result ⊤ Stop} → Reaches q b q₁ b₁ → Waits h q₁ b₁ b₂ r → Waits h q b b₂ r
+waits_last g x = record { same = same_then g.same x.same; is = λ p. g.is p ∙ rw (← g.same.setup) (x.is p) }
 
 -- nothing is left to wait for
-pub waits_well : {s : Setup} {h : Handler} {q : List Step} {st : State} {rs lg rx : List ℕ} {b : Progress} → Reaches s q st [] (at rs lg rx b) → WaitsFrom s h q st rs lg rx (Outcome.Well b)
-waits_well g = record { is = λ p. g.is p }
+pub waits_well : {h : Handler} {q : List Step} {b b₁ : Bus} {t : ⊤} → Reaches q b [] b₁ → Waits h q b b₁ (Ok t)
+waits_well g = record { same = g.same; is = λ p. g.is p }

@@ -1,96 +1,129 @@
--- The forms of the contracts: what a function's answer means, by the state that it leaves and what comes of the rest of the run from there.
-use Rattle.std.specs.Prelude.{ℕ, ◌-◌, ◌*◌, ◌≤◌, ◌≡◌, List, ◌++◌, length}
+-- The forms of the contracts: what a function's answer means, by the bus that it leaves and what comes of the rest of the run from there.
+use Rattle.std.specs.Prelude.{ℕ, ◌-◌, ◌*◌, ◌≤◌, ◌≡◌, false, ◌&&◌, leb, List, ◌++◌, length, Result, Ok, Err, MatchResult, ⊤}
 use Rattle.std.specs.Borrow.{Bor, MutBor}
 use denote.Triple.Both.{Both}
 use Rattle.units.specs.declared.Setup.{Setup}
+use Rattle.registers.specs.declared.ReadCode.{ReadCode}
+use Rattle.registers.specs.declared.WriteCode.{WriteCode}
+use Rattle.registers.specs.declared.UnknownCode.{UnknownCode}
 use Rattle.registers.specs.declared.Source.{Source}
 use Rattle.registers.specs.declared.BusError.{BusError}
+use Rattle.registers.specs.declared.Stop.{Stop}
 use Rattle.registers.specs.declared.Progress.{Progress}
-use Rattle.registers.specs.declared.Outcome.{Outcome}
-use Rattle.registers.specs.declared.Taken.{Taken}
-use Rattle.registers.specs.declared.Checked.{Checked}
-use Rattle.registers.specs.Access.{entries_in, well, failed, cut_number, number}
+use Rattle.registers.specs.declared.access.Bus.{Bus}
+use Rattle.registers.specs.Access.{SR1, SR2, CR1, DR, CYC, wCR1, wCR2, wCCR, wTRISE, wSR1, wDR, entries_in, well, failed, cut_number, number}
 use Rattle.registers.specs.Machine.{Step, Handler, handle}
-use Rattle.registers.specs.State.{State, at, After, Took, Found, then, resume, read, write, check}
+use Rattle.registers.specs.State.{State, at, After, Took, Found, then, resume, read, write, check, store_byte, after_bytes}
 
--- an outcome with the buffers that it leaves
-abbrev pub outcome : List ℕ → List ℕ → List ℕ → Outcome → After
-outcome rs lg rx (Outcome.Well b) = After.going (at rs lg rx b)
-outcome rs lg rx (Outcome.Failed e b) = After.failed e (at rs lg rx b)
-outcome rs lg rx (Outcome.CutShort c b) = After.cut_short c (at rs lg rx b)
+-- the code of a register that is read, and of one that is written
+abbrev pub read_code : ReadCode → ℕ
+read_code ReadCode.Sr1 = SR1
+read_code ReadCode.Sr2 = SR2
+read_code ReadCode.Cr1 = CR1
+read_code ReadCode.Dr = DR
+read_code ReadCode.Cyc = CYC
+
+abbrev pub write_code : WriteCode → ℕ
+write_code WriteCode.Cr1 = wCR1
+write_code WriteCode.Cr2 = wCR2
+write_code WriteCode.Ccr = wCCR
+write_code WriteCode.Trise = wTRISE
+write_code WriteCode.Sr1 = wSR1
+write_code WriteCode.Dr = wDR
+
+-- the register of a code, or the code as an error where no register that is read, or written, has it
+abbrev pub DecodesRead : ℕ → Result ReadCode UnknownCode → Type 0
+DecodesRead code r = MatchResult r (λ c. read_code c ≡ code) (λ e. (e.0 ≡ code) × (leb SR1 code && leb code CYC ≡ false))
+
+abbrev pub DecodesWrite : ℕ → Result WriteCode UnknownCode → Type 0
+DecodesWrite code r = MatchResult r (λ c. write_code c ≡ code) (λ e. (e.0 ≡ code) × (leb wCR1 code && leb code wDR ≡ false))
+
+-- the state of a run that a bus stands for
+abbrev pub state : Bus → State
+state b = at b.readings.now b.log.now b.rx.now b.progress
+
+-- the run goes on with the same setup and readings, and with the record and the received buffer that were lent to it
+pub record Same (b b' : Bus) : Type 0 where
+  pub setup : b'.setup ≡ b.setup
+  pub readings : b'.readings.now ≡ b.readings.now
+  pub log : b'.log.ghost_name ≡ b.log.ghost_name
+  pub rx : b'.rx.ghost_name ≡ b.rx.ghost_name
+
+-- an outcome with the state that it leaves
+abbrev pub outcome : State → Result ⊤ Stop → After
+outcome st (Ok t) = After.going st
+outcome st (Err (Stop.Failed e)) = After.failed e st
+outcome st (Err (Stop.CutShort c)) = After.cut_short c st
 
 -- the same of a read, and of a check
-abbrev pub taken : List ℕ → List ℕ → List ℕ → Taken → Took
-taken rs lg rx (Taken.Word v b) = Took.word v (at rs lg rx b)
-taken rs lg rx (Taken.CutShort c b) = Took.cut_short c (at rs lg rx b)
+abbrev pub found : State → Result ℕ Stop → Found
+found st (Ok v) = Found.word v st
+found st (Err (Stop.Failed e)) = Found.failed e st
+found st (Err (Stop.CutShort c)) = Found.cut_short c st
 
-abbrev pub checked : List ℕ → List ℕ → List ℕ → Checked → Found
-checked rs lg rx (Checked.Word v b) = Found.word v (at rs lg rx b)
-checked rs lg rx (Checked.Failed e b) = Found.failed e (at rs lg rx b)
-checked rs lg rx (Checked.CutShort c b) = Found.cut_short c (at rs lg rx b)
-
--- a read as an outcome, where the word plays no part, and as the answer of a check without an error
-abbrev pub outcome_of : Taken → Outcome
-outcome_of (Taken.Word v b) = Outcome.Well b
-outcome_of (Taken.CutShort c b) = Outcome.CutShort c b
-
-abbrev pub checked_of : Taken → Checked
-checked_of (Taken.Word v b) = Checked.Word v b
-checked_of (Taken.CutShort c b) = Checked.CutShort c b
-
--- a check as an outcome: the word plays no part
-abbrev pub check_outcome : Checked → Outcome
-check_outcome (Checked.Word v b) = Outcome.Well b
-check_outcome (Checked.Failed e b) = Outcome.Failed e b
-check_outcome (Checked.CutShort c b) = Outcome.CutShort c b
-
--- the answer of a check once the flag it found is cleared: its error, or its word
-abbrev pub failed_of : Outcome → BusError → Checked
-failed_of (Outcome.Well b) error = Checked.Failed error b
-failed_of (Outcome.Failed e b) error = Checked.Failed e b
-failed_of (Outcome.CutShort c b) error = Checked.CutShort c b
-
-abbrev pub word_of : Outcome → ℕ → Checked
-word_of (Outcome.Well b) word = Checked.Word word b
-word_of (Outcome.Failed e b) word = Checked.Failed e b
-word_of (Outcome.CutShort c b) word = Checked.CutShort c b
+-- a read finds no error
+abbrev pub found_of : Took → Found
+found_of (Took.word v st) = Found.word v st
+found_of (Took.cut_short c st) = Found.cut_short c st
 
 -- the number of an outcome: that of the ending which it stands for
-abbrev pub outcome_number : Outcome → ℕ
-outcome_number (Outcome.Well b) = number well
-outcome_number (Outcome.Failed e b) = number (failed e)
-outcome_number (Outcome.CutShort c b) = cut_number c
+abbrev pub error_number : BusError → ℕ
+error_number e = number (failed e)
 
--- one read of the register c from st answers r, and leaves these readings, this record and these received bytes
-pub record ReadsFrom (c : ℕ) (st : State) (rs lg rx : List ℕ) (r : Taken) : Type 0 where
-  pub is : taken rs lg rx r ≡ read c st
+abbrev pub stop_number : Stop → ℕ
+stop_number (Stop.Failed e) = number (failed e)
+stop_number (Stop.CutShort c) = cut_number c
 
--- one write of v to the register c
-pub record WritesFrom (c v : ℕ) (st : State) (rs lg rx : List ℕ) (o : Outcome) : Type 0 where
-  pub is : outcome rs lg rx o ≡ write c v st
+abbrev pub outcome_number : Result ⊤ Stop → ℕ
+outcome_number (Ok t) = number well
+outcome_number (Err stop) = stop_number stop
+
+-- one read
+pub record Reads (c : ReadCode) (b b' : Bus) (r : Result ℕ Stop) : Type 0 where
+  pub same : Same b b'
+  pub is : found (state b') r ≡ found_of (read (read_code c) (state b))
+
+-- one write of v
+pub record Writes (c : WriteCode) (v : ℕ) (b b' : Bus) (r : Result ⊤ Stop) : Type 0 where
+  pub same : Same b b'
+  pub is : outcome (state b') r ≡ write (write_code c) v (state b)
 
 -- one check
-pub record ChecksFrom (n : Source) (st : State) (rs lg rx : List ℕ) (r : Checked) : Type 0 where
-  pub is : checked rs lg rx r ≡ check n st
+pub record Checks (n : Source) (b b' : Bus) (r : Result ℕ Stop) : Type 0 where
+  pub same : Same b b'
+  pub is : found (state b') r ≡ check n (state b)
 
 -- the steps q are done: whatever steps p come after them, the run goes on with p from the state left, or has ended there
-pub record Refines (s : Setup) (q : List Step) (st : State) (rs lg rx : List ℕ) (o : Outcome) : Type 0 where
-  pub is : (p : List Step) → resume s (q ++ p) st ≡ then (outcome rs lg rx o) (resume s p)
+pub record Does (q : List Step) (b b' : Bus) (r : Result ⊤ Stop) : Type 0 where
+  pub same : Same b b'
+  pub is : (p : List Step) → resume b.setup (q ++ p) (state b) ≡ then (outcome (state b') r) (resume b.setup p)
 
--- the steps q from st come to the same as what is left of them, q', from st'
-pub record Reaches (s : Setup) (q : List Step) (st : State) (q' : List Step) (st' : State) : Type 0 where
-  pub is : (p : List Step) → resume s (q ++ p) st ≡ resume s (q' ++ p) st'
+-- the steps q come to the same as what is left of them, q', from where the bus is now
+pub record Reaches (q : List Step) (b : Bus) (q' : List Step) (b' : Bus) : Type 0 where
+  pub same : Same b b'
+  pub is : (p : List Step) → resume b.setup (q ++ p) (state b) ≡ resume b.setup (q' ++ p) (state b')
 
 -- a timed wait, whose error is left to the handler
-abbrev pub handled : Setup → Handler → List ℕ → List ℕ → List ℕ → Outcome → List Step → After
-handled s h rs lg rx (Outcome.Well b) p = resume s p (at rs lg rx b)
-handled s h rs lg rx (Outcome.Failed e b) p = resume s (handle s h e ++ p) (at rs lg rx b)
-handled s h rs lg rx (Outcome.CutShort c b) p = After.cut_short c (at rs lg rx b)
+abbrev pub handled : Setup → Handler → State → Result ⊤ Stop → List Step → After
+handled s h st (Ok t) p = resume s p st
+handled s h st (Err (Stop.Failed e)) p = resume s (handle s h e ++ p) st
+handled s h st (Err (Stop.CutShort c)) p = After.cut_short c st
 
-pub record WaitsFrom (s : Setup) (h : Handler) (q : List Step) (st : State) (rs lg rx : List ℕ) (o : Outcome) : Type 0 where
-  pub is : (p : List Step) → resume s (q ++ p) st ≡ handled s h rs lg rx o p
+pub record Waits (h : Handler) (q : List Step) (b b' : Bus) (r : Result ⊤ Stop) : Type 0 where
+  pub same : Same b b'
+  pub is : (p : List Step) → resume b.setup (q ++ p) (state b) ≡ handled b.setup h (state b') r p
 
--- The same of a function's parameters, as its contract has them. A slice, and one that the function writes to, is what it holds at the call (`entry`) and at the return (`exit`).
+-- n of so many bytes fit, each with its wait over at once: two readings and three entries a byte
+abbrev pub BytesFit : Bus → (count n : ℕ) → Type 0
+BytesFit b count n =
+    (n ≤ count) × (2 * n ≤ length b.readings.now - b.progress.used) × (3 * n ≤ entries_in (length b.log.now) - b.progress.made)
+
+-- a byte whose wait was over at once
+pub record WritesAtOnce (byte : ℕ) (b b' : Bus) : Type 0 where
+  pub same : Same b b'
+  pub is : state b' ≡ at b.readings.now (store_byte b.readings.now b.log.now b.progress byte) b.rx.now (after_bytes b.progress 1)
+
+-- A slice that a function is given, and one that it writes to: what it holds at the call (`entry`) and at the return (`exit`).
 
 abbrev pub Slice : Type 0
 Slice = Both (Bor (List ℕ)) (Bor (List ℕ))
@@ -98,34 +131,13 @@ Slice = Both (Bor (List ℕ)) (Bor (List ℕ))
 abbrev pub MutSlice : Type 0
 MutSlice = Both (MutBor (List ℕ)) (MutBor (List ℕ))
 
--- n of so many bytes fit, each with its wait over at once: two readings and three entries a byte
-abbrev pub BytesFit : (readings log : Slice) → Progress → (count n : ℕ) → Type 0
-BytesFit readings log b count n =
-    (n ≤ count) × (2 * n ≤ length readings.entry.now - b.used) × (3 * n ≤ entries_in (length log.entry.now) - b.made)
+-- nothing read, made or received as yet
+abbrev pub nothing_yet : Progress
+nothing_yet = record { used = 0; made = 0; got = 0 }
 
--- one read of the register c, whatever is received
-abbrev pub Reads : ℕ → (readings : Slice) (log : MutSlice) → Progress → Taken → Type 0
-Reads c readings log b r = (rx : List ℕ) → ReadsFrom c (at readings.entry.now log.entry.now rx b) readings.entry.now log.exit.now rx r
-
--- one write of v to the register c, whatever the readings
-abbrev pub Writes : (c v : ℕ) → (log : MutSlice) → Progress → Outcome → Type 0
-Writes c v log b r = (rs rx : List ℕ) → WritesFrom c v (at rs log.entry.now rx b) rs log.exit.now rx r
-
--- one check
-abbrev pub Checks : Source → (readings : Slice) (log : MutSlice) → Progress → Checked → Type 0
-Checks n readings log b r = (rx : List ℕ) → ChecksFrom n (at readings.entry.now log.entry.now rx b) readings.entry.now log.exit.now rx r
-
--- the steps q with this setup, and with every setup
-abbrev pub DoesWith : Setup → List Step → (readings : Slice) (log : MutSlice) → Progress → Outcome → Type 0
-DoesWith s q readings log b r = (rx : List ℕ) → Refines s q (at readings.entry.now log.entry.now rx b) readings.entry.now log.exit.now rx r
-
-abbrev pub Does : List Step → (readings : Slice) (log : MutSlice) → Progress → Outcome → Type 0
-Does q readings log b r = (s : Setup) → DoesWith s q readings log b r
-
--- the steps q with this setup, where bytes are received
-abbrev pub Receives : Setup → List Step → (readings : Slice) (log rx : MutSlice) → Progress → Outcome → Type 0
-Receives s q readings log rx b r = Refines s q (at readings.entry.now log.entry.now rx.entry.now b) readings.entry.now log.exit.now rx.exit.now r
-
--- a timed wait with this setup, whose error is left to this handler
-abbrev pub Waits : Setup → Handler → List Step → (readings : Slice) (log : MutSlice) → Progress → Outcome → Type 0
-Waits s h q readings log b r = (rx : List ℕ) → WaitsFrom s h q (at readings.entry.now log.entry.now rx b) readings.entry.now log.exit.now rx r
+-- a bus with this setup, on these readings and buffers, that has come so far
+pub record Starts (s : Setup) (readings : List ℕ) (log rx : MutBor (List ℕ)) (progress : Progress) (b : Bus) : Type 0 where
+  pub with_setup : b.setup ≡ s
+  pub record_lent : b.log.ghost_name ≡ log.ghost_name
+  pub received_lent : b.rx.ghost_name ≡ rx.ghost_name
+  pub start : state b ≡ at readings log.now rx.now progress

@@ -1,13 +1,12 @@
 -- The bus machine: what the engine does, one register access at a time.
 -- A program is a list of steps. The first step names an access; the value read decides which steps take its place.
-use Rattle.std.specs.Prelude.{ℕ, zero, suc, ◌+◌, ◌-◌, ◌%◌, ◌^◌, Bool, true, false, not, cond, length, drop, leb}
+use Rattle.std.specs.Prelude.{Option, Some, None, ℕ, zero, suc, ◌+◌, ◌-◌, ◌%◌, ◌^◌, Bool, true, false, not, cond, length, drop, leb}
 use mathlib.Core.List.{List, [], ◌∷◌, ◌++◌, flatten}
 use Rattle.units.specs.declared.Setup.{Setup}
 use Rattle.registers.specs.declared.Source.{Source}
 use Rattle.registers.specs.declared.BusError.{BusError}
 use Rattle.registers.specs.declared.Entry.{Entry}
 use Rattle.registers.specs.declared.Bits.{Bits}
-use Rattle.registers.specs.declared.Flagged.{Flagged}
 use Rattle.registers.specs.declared.Awaited.{Awaited}
 use Rattle.registers.specs.Word.{has, with_bits, without_bits, none, one, SB, BERR, ARLO, AF, OVR, PECERR, TIMEOUT, MSL, BUSY, PE, START, STOP, SWRST}
 use Rattle.registers.specs.Access.{SR1, SR2, CR1, CYC, wCR1, wCR2, wCCR, wTRISE, wSR1, cut, clear_word, reads, Access, read, write, no_readings, no_record, Ending, well, failed, cut_short}
@@ -52,29 +51,29 @@ abbrev pub send_start : Bits → List Step
 send_start on = put wSR1 0 ∷ modify on none ∷ []
 
 -- check: the first set of TIMEOUT, PECERR (Crc), OVR, AF, ARLO
-unfoldable pub check_word : Source → ℕ → Flagged
+unfoldable pub check_word : Source → ℕ → Option BusError
 check_word n v =
-    cond (has TIMEOUT v) (Flagged.Error BusError.Timeout)
-    (cond (has PECERR v) (Flagged.Error BusError.Crc)
-    (cond (has OVR v) (Flagged.Error BusError.Overrun)
-    (cond (has AF v) (Flagged.Error (BusError.NoAcknowledge n))
-    (cond (has ARLO v) (Flagged.Error BusError.ArbitrationLoss)
-    Flagged.Nothing))))
+    cond (has TIMEOUT v) (Some BusError.Timeout)
+    (cond (has PECERR v) (Some BusError.Crc)
+    (cond (has OVR v) (Some BusError.Overrun)
+    (cond (has AF v) (Some (BusError.NoAcknowledge n))
+    (cond (has ARLO v) (Some BusError.ArbitrationLoss)
+    None))))
 
 -- after a check: an error clears and ends the call; else BERR clears, and the same word is used
-unfoldable pub after_check : Flagged → Bool → List Step → List Step
-after_check (Flagged.Error e) berr next = clear e ∷ fail e ∷ []
-after_check Flagged.Nothing true next = clear BusError.Bus ∷ next
-after_check Flagged.Nothing false next = next
+unfoldable pub after_check : Option BusError → Bool → List Step → List Step
+after_check (Some e) berr next = clear e ∷ fail e ∷ []
+after_check None true next = clear BusError.Bus ∷ next
+after_check None false next = next
 
 -- poll: the first of BERR (Bus), ARLO, AF, OVR; the awaited flag plays no part
-unfoldable pub poll_word : Source → ℕ → Flagged
+unfoldable pub poll_word : Source → ℕ → Option BusError
 poll_word n v =
-    cond (has BERR v) (Flagged.Error BusError.Bus)
-    (cond (has ARLO v) (Flagged.Error BusError.ArbitrationLoss)
-    (cond (has AF v) (Flagged.Error (BusError.NoAcknowledge n))
-    (cond (has OVR v) (Flagged.Error BusError.Overrun)
-    Flagged.Nothing)))
+    cond (has BERR v) (Some BusError.Bus)
+    (cond (has ARLO v) (Some BusError.ArbitrationLoss)
+    (cond (has AF v) (Some (BusError.NoAcknowledge n))
+    (cond (has OVR v) (Some BusError.Overrun)
+    None)))
 
 -- blocking start, with so many tries left: SR1 0, START, timed SB; with no tries, well
 unfoldable pub start : Setup → ℕ → List Step
@@ -111,9 +110,9 @@ polled_register (Awaited.Flag f n) = SR1
 polled_register Awaited.Stop = CR1
 
 -- the error that a poll finds; a wait for STOP meets no bus error
-unfoldable pub poll_error : Awaited → ℕ → Flagged
+unfoldable pub poll_error : Awaited → ℕ → Option BusError
 poll_error (Awaited.Flag f n) v = poll_word n v
-poll_error Awaited.Stop v = Flagged.Nothing
+poll_error Awaited.Stop v = None
 
 -- ready if the flag is set, or if STOP is clear
 unfoldable pub poll_ready : Awaited → ℕ → Bool
@@ -121,9 +120,9 @@ poll_ready (Awaited.Flag f n) v = has f v
 poll_ready Awaited.Stop v = not (has STOP v)
 
 -- after a poll: an error clears, and the handler ends or retries; else the wait is over if it is ready, and goes on with the next CYC read if not
-unfoldable pub after_poll : Setup → Handler → Flagged → Bool → Step → List Step
-after_poll s h (Flagged.Error e) ready later = clear e ∷ handle s h e
-after_poll s h Flagged.Nothing ready later = cond ready [] (later ∷ [])
+unfoldable pub after_poll : Setup → Handler → Option BusError → Bool → Step → List Step
+after_poll s h (Some e) ready later = clear e ∷ handle s h e
+after_poll s h None ready later = cond ready [] (later ∷ [])
 
 -- what a step does: it fails the call and makes no access, or it makes this access
 pub data Act : Type 0 where

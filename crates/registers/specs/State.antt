@@ -1,12 +1,11 @@
 -- The state of a run, and what is still to come of it: how the machine's log fills the caller's buffers.
-use Rattle.std.specs.Prelude.{ℕ, zero, suc, ◌+◌, ◌-◌, ◌*◌, Bool, true, false, cond, List, [], ◌∷◌, length, set, drop, get_or}
+use Rattle.std.specs.Prelude.{Option, Some, None, ℕ, zero, suc, ◌+◌, ◌-◌, ◌*◌, Bool, true, false, cond, List, [], ◌∷◌, length, set, drop, get_or}
 use Rattle.units.specs.declared.Setup.{Setup}
 use Rattle.registers.specs.declared.Source.{Source}
 use Rattle.registers.specs.declared.BusError.{BusError}
 use Rattle.registers.specs.declared.Cut.{Cut}
 use Rattle.registers.specs.declared.Entry.{Entry}
 use Rattle.registers.specs.declared.Progress.{Progress}
-use Rattle.registers.specs.declared.Flagged.{Flagged}
 use Rattle.registers.specs.Word.{has, BERR}
 use Rattle.registers.specs.Access.{SR1, CYC, wSR1, wDR, is_read, is_data, cut, low_byte, clear_word, entries_in, store, cut_of, Ending}
 use Rattle.registers.specs.Machine.{Step, exec, check_word}
@@ -122,10 +121,10 @@ abbrev pub found_word : Took → (ℕ → State → Found) → Found
 found_word (word v st) k = k v st
 found_word (cut_short c st) k = Found.cut_short c st
 
-abbrev pub check_flags : Flagged → Bool → ℕ → State → Found
-check_flags (Flagged.Error e) berr v st = found_then (write wSR1 (clear_word e) st) (λ st'. Found.failed e st')
-check_flags Flagged.Nothing true v st = found_then (write wSR1 (clear_word BusError.Bus) st) (λ st'. Found.word v st')
-check_flags Flagged.Nothing false v st = Found.word v st
+abbrev pub check_flags : Option BusError → Bool → ℕ → State → Found
+check_flags (Some e) berr v st = found_then (write wSR1 (clear_word e) st) (λ st'. Found.failed e st')
+check_flags None true v st = found_then (write wSR1 (clear_word BusError.Bus) st) (λ st'. Found.word v st')
+check_flags None false v st = Found.word v st
 
 unfoldable pub check : Source → State → Found
 check n st = found_word (read SR1 st) (λ v st'. check_flags (check_word n v) (has BERR v) v st')

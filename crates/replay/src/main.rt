@@ -12,14 +12,18 @@
 
 ghost use Rattle.std.specs.Prelude.{◌≤◌};
 
-use buffers::{first_bytes, first_words, run_on, to_words, word_at};
+use buffers::{Expected, Run, counts_of, to_words};
+use cases::Tally;
 use engine::Counts;
 use registers::ENTRY_WORDS;
+use std::alloc::{AllocError, Global};
 use std::fs::File;
 use std::io;
 use std::io::Read;
 
-// The received buffer's bytes and the record's words, from which each case takes as many as it says.
+// How long a case is at most: in bytes after its first nine words, the received buffer in bytes, the record in words.
+const BODY: usize = 4096;
+
 const ROOM: usize = 4096;
 
 const WORDS: usize = 2048;
@@ -30,7 +34,7 @@ const MOST: usize = 29127;
 
 // The first nine words of a case.
 #[derive(Clone, Copy)]
-struct Case {
+struct Head {
     // The lengths of the list in bytes, of the readings in words, of the received buffer in bytes, of the record in
     // words.
     list: u32,
@@ -45,378 +49,216 @@ struct Case {
     got: u32,
 }
 
-// What the file has next.
-#[derive(Clone, Copy)]
-enum Next {
-    Case(Case),
-    End,
+// Bytes are filled up to a whole word.
+fn padded(bytes: u32) -> usize
+    ensures { result ≤ 4294967296 }
+{
+    (bytes as usize).div_ceil(4) * 4
+}
+
+impl Head {
+    fn of(bytes: &[u8; 36]) -> Head {
+        let mut words = [0; 9];
+        to_words(bytes, &mut words);
+        let [list, readings, room, words, answer, calls, used, made, got] = words;
+        Head {
+            list,
+            readings,
+            room,
+            words,
+            answer,
+            calls,
+            used,
+            made,
+            got,
+        }
+    }
+
+    // How many words of the record the case has.
+    fn record(&self) -> usize
+        ensures { result ≤ 8589934590 }
+    {
+        ENTRY_WORDS * self.made as usize
+    }
+
+    fn is_too_long(&self) -> bool {
+        let words = self.readings as usize + self.record();
+        let body = padded(self.list) + 4 * words + padded(self.got);
+        body > BODY || self.room as usize > ROOM || self.words as usize > WORDS
+    }
+
+    fn counts(&self) -> Counts {
+        counts_of([self.answer, self.calls, self.used, self.made, self.got])
+    }
+}
+
+// A stored case.
+#[derive(Drop)]
+struct Case {
+    head: Head,
+    list: Vec<u8>,
+    readings: Vec<u32>,
+    record: Vec<u32>,
+    received: Vec<u8>,
+}
+
+impl Case {
+    fn run(&self, alloc: Global) -> Result<Run, AllocError> {
+        let room = self.head.room as usize;
+        let words = self.head.words as usize;
+        Run::on(alloc, &self.list, &self.readings, room, words)
+    }
+
+    fn expected(&self) -> Expected<'_> {
+        Expected {
+            record: &self.record,
+            received: &self.received,
+            counts: self.head.counts(),
+        }
+    }
+}
+
+// Why the file's next case could not be read.
+#[derive(Drop)]
+enum Unread {
     CutShort,
     TooLong,
+    Failed(io::Error),
 }
 
-// The first thing in which a run differs from its case.
-#[derive(Clone, Copy)]
-enum Difference {
-    Nothing,
-    Answer,
-    Counts,
-    Record,
-    Received,
-    PastTheEnd,
+impl From<io::Error> for Unread {
+    fn from(error: io::Error) -> Unread {
+        Unread::Failed(error)
+    }
 }
 
-// How far the replay is.
-#[derive(Clone, Copy)]
-struct State {
-    cases: usize,
-    differ: usize,
-    // Whether there may be a case more.
-    more: bool,
+impl From<AllocError> for Unread {
+    fn from(error: AllocError) -> Unread {
+        Unread::Failed(io::Error::from(error))
+    }
 }
 
-// The words that so many bytes take.
-fn in_words(bytes: u32) -> usize
-    ensures { result ≤ 1073741824 }
-{
-    (bytes as usize + 3) / 4
+// So many bytes of the file.
+fn read_bytes(alloc: Global, file: &mut impl Read, count: usize) -> Result<Vec<u8>, Unread> {
+    let mut bytes = vec![in alloc; 0; count]?;
+    if input::read_full(file, &mut bytes)? < count {
+        return Err(Unread::CutShort);
+    }
+    Ok(bytes)
 }
 
-// So many words of the bytes from word number `from` on. No case asks for words that are not there.
-fn part(bytes: &[u8], from: usize, words: usize) -> &[u8] {
-    let all = bytes.len() / 4;
-    if from <= all {
-        if words <= all - from {
-            let start = 4 * from;
-            let end = start + 4 * words;
-            return &bytes[start..end];
+// So many bytes, which the file fills up to a whole word.
+fn read_padded(alloc: Global, file: &mut impl Read, count: u32) -> Result<Vec<u8>, Unread> {
+    let mut bytes = read_bytes(alloc, file, padded(count))?;
+    bytes.truncate(count as usize);
+    Ok(bytes)
+}
+
+// So many words of the file.
+fn read_words(alloc: Global, file: &mut impl Read, count: usize) -> Result<Vec<u32>, Unread> {
+    let bytes = read_bytes(alloc, file, count.saturating_mul(4))?;
+    let mut words = vec![in alloc; 0; count]?;
+    to_words(&bytes, &mut words);
+    Ok(words)
+}
+
+// The file's next case, where it has one.
+fn read_case(alloc: Global, file: &mut impl Read) -> Result<Option<Case>, Unread> {
+    let mut bytes = [0; 36];
+    let count = input::read_full(file, &mut bytes)?;
+    if count == 0 {
+        return Ok(None);
+    }
+    if count < bytes.len() {
+        return Err(Unread::CutShort);
+    }
+    let head = Head::of(&bytes);
+    if head.is_too_long() {
+        return Err(Unread::TooLong);
+    }
+    Ok(Some(Case {
+        head,
+        list: read_padded(alloc, file, head.list)?,
+        readings: read_words(alloc, file, head.readings as usize)?,
+        record: read_words(alloc, file, head.record())?,
+        received: read_padded(alloc, file, head.got)?,
+    }))
+}
+
+// How many runs had each answer, by the number of the answer, as C hosts get it, and how many cases differ.
+#[derive(Drop)]
+struct Replay {
+    answers: [u32; 28],
+    tally: Tally,
+}
+
+impl Replay {
+    // Runs a case and counts it. The first that differs is named, with its number from 0.
+    fn run(
+        &mut self,
+        rt: &impl Print,
+        alloc: Global,
+        number: usize,
+        case: &Case,
+    ) -> io::Result<()> {
+        let run = case.run(alloc)?;
+        let compared = run.compare(case.expected());
+        if let Err(difference) = compared {
+            if self.tally.all_agree() {
+                println!(rt; "case {number} differs: {difference}")?;
+            }
+        }
+        self.tally.count(compared.is_ok());
+        self.count_answer(run.counts().answer);
+        Ok(())
+    }
+
+    // One run more with this answer. No file has so many that a count ends.
+    fn count_answer(&mut self, answer: u32) {
+        if let Some(runs) = self.answers.get_mut(answer as usize) {
+            *runs = runs.saturating_add(1);
         }
     }
-    bytes
-}
 
-fn case_of(head: &[u8]) -> Case {
-    Case {
-        list: word_at(head, 0),
-        readings: word_at(head, 1),
-        room: word_at(head, 2),
-        words: word_at(head, 3),
-        answer: word_at(head, 4),
-        calls: word_at(head, 5),
-        used: word_at(head, 6),
-        made: word_at(head, 7),
-        got: word_at(head, 8),
-    }
-}
-
-// Where the case's record starts, in words after its first nine.
-fn record_from(case: Case) -> usize
-    ensures { result ≤ 8589934592 }
-{
-    in_words(case.list) + case.readings as usize
-}
-
-// The words of the case's record.
-fn record_words(case: Case) -> usize
-    ensures { result ≤ 17179869184 }
-{
-    ENTRY_WORDS * (case.made as usize)
-}
-
-// Where the case's received bytes start.
-fn received_from(case: Case) -> usize
-    ensures { result ≤ 34359738368 }
-{
-    record_from(case) + record_words(case)
-}
-
-// Whether the run's buffers are long enough for the case.
-fn has_room(case: Case) -> bool {
-    (case.room as usize <= ROOM) & (case.words as usize <= WORDS)
-}
-
-// What follows a case's first nine words goes to the body's start.
-fn read_body(file: &mut impl Read, body: &mut [u8], case: Case) -> io::Result<Next> {
-    let size = 4 * (received_from(case) + in_words(case.got));
-    if body.len() < size {
-        return Ok(Next::TooLong);
-    }
-    if !has_room(case) {
-        return Ok(Next::TooLong);
-    }
-    if input::read_full(file, &mut body[..size])? == size {
-        return Ok(Next::Case(case));
-    }
-    Ok(Next::CutShort)
-}
-
-fn read_case(file: &mut impl Read, body: &mut [u8]) -> io::Result<Next> {
-    let mut head = [0u8; 36];
-    let n = input::read_full(file, &mut head)?;
-    if n == 0 {
-        return Ok(Next::End);
-    }
-    if n < 36 {
-        return Ok(Next::CutShort);
-    }
-    read_body(file, body, case_of(&head))
-}
-
-// What the received buffer has at `at` before a run. Neighbours differ, so that a byte moved from elsewhere shows too.
-fn old_byte(at: usize) -> u8 {
-    ((at % 256 * 37 + 165) % 256) as u8
-}
-
-// What the record has at `at` before a run.
-fn old_word(at: usize) -> u32 {
-    0xDEAD0000 + (at % 65536) as u32
-}
-
-fn fill_bytes(bytes: &mut [u8]) {
-    let mut i: usize = 0;
-    while i < bytes.len() {
-        bytes[i] = old_byte(i);
-        i += 1;
-    }
-}
-
-fn fill_words(words: &mut [u32]) {
-    let mut i: usize = 0;
-    while i < words.len() {
-        words[i] = old_word(i);
-        i += 1;
-    }
-}
-
-// Whether the bytes from `from` on are as they were before the run.
-fn old_bytes(bytes: &[u8], from: usize) -> bool {
-    let mut i = from;
-    while i < bytes.len() {
-        if bytes[i] != old_byte(i) {
-            return false;
+    // A line for each answer that a run had, and how many cases differ.
+    fn print(&self, rt: &impl Print) -> io::Result<()> {
+        for (answer, runs) in self.answers.iter().enumerate() {
+            if *runs > 0 {
+                println!(rt; "answer {answer}: {runs} cases")?;
+            }
         }
-        i += 1;
-    }
-    true
-}
-
-// Whether the words from `from` on are as they were before the run.
-fn old_words(words: &[u32], from: usize) -> bool {
-    let mut i = from;
-    while i < words.len() {
-        if words[i] != old_word(i) {
-            return false;
-        }
-        i += 1;
-    }
-    true
-}
-
-// Whether the record has the stored words.
-fn same_words(stored: &[u8], words: &[u32]) -> bool {
-    if stored.len() / 4 != words.len() {
-        return false;
-    }
-    let mut i: usize = 0;
-    while i < words.len() {
-        if words[i] != word_at(stored, i) {
-            return false;
-        }
-        i += 1;
-    }
-    true
-}
-
-// Whether the stored bytes start with the received ones: they are filled up to a whole word.
-fn same_bytes(stored: &[u8], bytes: &[u8]) -> bool {
-    if stored.len() < bytes.len() {
-        return false;
-    }
-    let mut i: usize = 0;
-    while i < bytes.len() {
-        if bytes[i] != stored[i] {
-            return false;
-        }
-        i += 1;
-    }
-    true
-}
-
-fn same_counts(case: Case, c: Counts) -> bool {
-    (case.calls as usize == c.calls)
-        & (case.used as usize == c.used)
-        & (case.made as usize == c.made)
-        & (case.got as usize == c.got)
-}
-
-// What the run left, against the case.
-fn compare(body: &[u8], case: Case, rx: &[u8], log: &[u32], c: Counts) -> Difference {
-    if c.answer != case.answer {
-        return Difference::Answer;
-    }
-    if !same_counts(case, c) {
-        return Difference::Counts;
-    }
-    let made = record_words(case);
-    let record = part(body, record_from(case), made);
-    if !same_words(record, first_words(log, made)) {
-        return Difference::Record;
-    }
-    let got = case.got as usize;
-    let received = part(body, received_from(case), in_words(case.got));
-    if !same_bytes(received, first_bytes(rx, got)) {
-        return Difference::Received;
-    }
-    if old_words(log, made) & old_bytes(rx, got) {
-        return Difference::Nothing;
-    }
-    Difference::PastTheEnd
-}
-
-// One run more with this answer. No count can wrap, since there are not so many cases; the wrapping sum spares the
-// proof of that.
-fn count(answers: &mut [u32], answer: u32) {
-    let at = answer as usize;
-    if at < answers.len() {
-        answers[at] = answers[at].wrapping_add(1);
+        println!(rt; "{}", self.tally)
     }
 }
 
-// The case's run, counted under its answer and compared.
-fn replay(body: &[u8], case: Case, answers: &mut [u32]) -> Difference {
-    let list = first_bytes(body, case.list as usize);
-    let mut readings = [0u32; 1024];
-    let stored = part(body, in_words(case.list), case.readings as usize);
-    let taken = to_words(stored, &mut readings);
-    let readings = first_words(&readings, taken);
-    let mut rx = [0u8; ROOM];
-    fill_bytes(&mut rx);
-    let mut log = [0u32; WORDS];
-    fill_words(&mut log);
-    let c = run_on(
-        list,
-        readings,
-        &mut rx,
-        case.room as usize,
-        &mut log,
-        case.words as usize,
-    );
-    count(answers, c.answer);
-    compare(body, case, &rx, &log, c)
-}
-
-// Names a case, numbered from 0, and what is wrong with it.
-fn name(rt: &impl Print, number: usize, what: &str) -> io::Result<()> {
-    println!(rt; "case {number} {what}")
-}
-
-fn name_difference(rt: &impl Print, number: usize, d: Difference) -> io::Result<()> {
-    match d {
-        Difference::Nothing => Ok(()),
-        Difference::Answer => name(rt, number, "differs: answer"),
-        Difference::Counts => name(rt, number, "differs: counts"),
-        Difference::Record => name(rt, number, "differs: record"),
-        Difference::Received => name(rt, number, "differs: received"),
-        Difference::PastTheEnd => name(rt, number, "differs: past the end"),
-    }
-}
-
-fn is_nothing(d: Difference) -> bool {
-    match d {
-        Difference::Nothing => true,
-        _ => false,
-    }
-}
-
-// One case more. The sums cannot wrap either.
-fn counted(rt: &impl Print, s: State, d: Difference) -> io::Result<State> {
-    let mut after = s;
-    after.cases = s.cases.wrapping_add(1);
-    if is_nothing(d) {
-        return Ok(after);
-    }
-    if s.differ == 0 {
-        name_difference(rt, s.cases, d)?;
-    }
-    after.differ = s.differ.wrapping_add(1);
-    Ok(after)
-}
-
-// No case more.
-fn ended(s: State) -> State {
-    let mut after = s;
-    after.more = false;
-    after
-}
-
-fn step(
-    rt: &impl Print,
-    file: &mut impl Read,
-    body: &mut [u8],
-    answers: &mut [u32],
-    s: State,
-) -> io::Result<State> {
-    let next = read_case(file, body)?;
-    match next {
-        Next::Case(case) => counted(rt, s, replay(body, case, answers)),
-        Next::End => Ok(ended(s)),
-        Next::CutShort => {
-            name(rt, s.cases, "is cut short")?;
-            Ok(ended(s))
-        }
-        Next::TooLong => {
-            name(rt, s.cases, "is too long")?;
-            Ok(ended(s))
-        }
-    }
-}
-
-fn replay_all(
-    rt: &impl Print,
-    file: &mut impl Read,
-    body: &mut [u8],
-    answers: &mut [u32],
-) -> io::Result<State> {
-    let mut s = State {
-        cases: 0,
-        differ: 0,
-        more: true,
+// All cases, up to one that cannot be read, which is named.
+fn replay_all(rt: &impl Print, alloc: Global, file: &mut impl Read) -> io::Result<Replay> {
+    let mut replay = Replay {
+        answers: [0; 28],
+        tally: Tally::default(),
     };
-    for _ in 0..MOST {
-        s = step(rt, file, body, answers, s)?;
-        if !s.more {
-            return Ok(s);
+    for number in 0..MOST {
+        match read_case(alloc, file) {
+            Ok(Some(case)) => replay.run(rt, alloc, number, &case)?,
+            Ok(None) => break,
+            Err(Unread::Failed(error)) => return Err(error),
+            Err(Unread::CutShort) => {
+                println!(rt; "case {number} is cut short")?;
+                break;
+            }
+            Err(Unread::TooLong) => {
+                println!(rt; "case {number} is too long")?;
+                break;
+            }
         }
     }
-    Ok(s)
-}
-
-// How many runs had the answer; no line where none had.
-fn print_answer(rt: &impl Print, answer: usize, runs: u32) -> io::Result<()> {
-    if runs == 0 {
-        return Ok(());
-    }
-    println!(rt; "answer {answer}: {runs} cases")
-}
-
-fn print_answers(rt: &impl Print, answers: &[u32]) -> io::Result<()> {
-    let mut i: usize = 0;
-    while i < answers.len() {
-        print_answer(rt, i, answers[i])?;
-        i += 1;
-    }
-    Ok(())
+    Ok(replay)
 }
 
 fn main(rt: HostRuntime) -> io::Result<()> {
     let mut file = match File::open(&rt, "vectors.bin") {
         Ok(file) => file,
-        Err(e) => return input::report(&rt, "vectors.bin", e),
+        Err(error) => return input::report(&rt, "vectors.bin", error),
     };
-    let mut body = [0u8; 4096];
-    let mut answers = [0u32; 28];
-    let s = replay_all(&rt, &mut file, &mut body, &mut answers)?;
-    print_answers(&rt, &answers)?;
-    let cases = s.cases;
-    let differ = s.differ;
-    println!(rt; "{cases} cases, {differ} differ")
+    replay_all(&rt, rt.alloc(), &mut file)?.print(&rt)
 }

@@ -1,99 +1,134 @@
 // A run as text on standard output, written field by field: no array holds the text of more than one field, and a space
-// or a line end is written by itself (C-12): no writer in between holds text back, and each call of `write_all` and each
-// `print!` here makes its own write. Each function stops at the first field that was not written, with its error.
+// or a line end is written by itself (C-12): no writer in between holds text back, and each `print!` here makes its own
+// write. So there is no format with more than one field, and no `Display` of an access or a line. Each function stops at
+// the first field that was not written, with its error.
 #![tactic(auto)]
 
-use registers::Entry;
-use std::io;
-
-fn field(rt: &impl Print, text: &[u8]) -> io::Result<()> {
-    rt.write_all(text)
-}
+use engine::Counts;
+use registers::{Entry, ReadCode, UnknownCode, WriteCode};
+use std::{fmt, io};
 
 // The space that parts two fields.
 fn space(rt: &impl Print) -> io::Result<()> {
-    field(rt, b" ")
+    print!(rt; " ")
 }
 
 // What ends every line, the last one too.
 pub fn line_end(rt: &impl Print) -> io::Result<()> {
-    field(rt, b"\n")
+    print!(rt; "\n")
 }
 
-// The codes of reads are below those of writes.
-fn direction(rt: &impl Print, code: u32) -> io::Result<()> {
-    if code < 11 {
-        field(rt, b"r")
-    } else {
-        field(rt, b"w")
+// Which way an access goes.
+#[derive(Clone, Copy)]
+enum Direction {
+    Read,
+    Write,
+}
+
+// The codes of reads are below those of writes, the first of which is that of CR1.
+impl From<u32> for Direction {
+    fn from(code: u32) -> Direction {
+        if code < u32::from(WriteCode::Cr1) {
+            Direction::Read
+        } else {
+            Direction::Write
+        }
     }
 }
 
-// The register of a code. No access has another code; a mark shows it if a record written by hand has.
-fn register(rt: &impl Print, code: u32) -> io::Result<()> {
-    match code {
-        1 | 15 => field(rt, b"sr1"),
-        2 => field(rt, b"sr2"),
-        3 | 11 => field(rt, b"cr1"),
-        4 | 16 => field(rt, b"dr"),
-        5 => field(rt, b"cyc"),
-        12 => field(rt, b"cr2"),
-        13 => field(rt, b"ccr"),
-        14 => field(rt, b"trise"),
-        _ => field(rt, b"?"),
+impl fmt::Display for Direction {
+    fn fmt<W: fmt::Write>(&self, f: &mut fmt::Formatter<W>) -> fmt::Result {
+        f.write_str(match self {
+            Direction::Read => "r",
+            Direction::Write => "w",
+        })
+    }
+}
+
+// A register, as it is read or as it is written.
+#[derive(Clone, Copy)]
+enum Register {
+    Read(ReadCode),
+    Written(WriteCode),
+}
+
+impl TryFrom<u32> for Register {
+    type Error = UnknownCode;
+
+    fn try_from(code: u32) -> Result<Self, UnknownCode> {
+        match ReadCode::try_from(code) {
+            Ok(code) => Ok(Register::Read(code)),
+            Err(_) => WriteCode::try_from(code).map(Register::Written),
+        }
+    }
+}
+
+impl fmt::Display for Register {
+    fn fmt<W: fmt::Write>(&self, f: &mut fmt::Formatter<W>) -> fmt::Result {
+        f.write_str(match self {
+            Register::Read(ReadCode::Sr1) | Register::Written(WriteCode::Sr1) => "sr1",
+            Register::Read(ReadCode::Sr2) => "sr2",
+            Register::Read(ReadCode::Cr1) | Register::Written(WriteCode::Cr1) => "cr1",
+            Register::Written(WriteCode::Cr2) => "cr2",
+            Register::Written(WriteCode::Ccr) => "ccr",
+            Register::Written(WriteCode::Trise) => "trise",
+            Register::Read(ReadCode::Dr) | Register::Written(WriteCode::Dr) => "dr",
+            Register::Read(ReadCode::Cyc) => "cyc",
+        })
+    }
+}
+
+// A record written by hand may have an unknown code: a mark shows it.
+fn print_register(rt: &impl Print, register: Result<Register, UnknownCode>) -> io::Result<()> {
+    match register {
+        Ok(register) => print!(rt; "{register}"),
+        Err(_) => print!(rt; "?"),
     }
 }
 
 // How many digits a value has: only the cycle counter has 32 bits.
-fn digits(code: u32) -> usize {
-    if code == 5 { 8 } else { 4 }
+fn digits(register: Result<Register, UnknownCode>) -> usize {
+    match register {
+        Ok(Register::Read(ReadCode::Cyc)) => 8,
+        _ => 4,
+    }
 }
 
 // One access, without its line end.
 pub fn access(rt: &impl Print, entry: Entry) -> io::Result<()> {
     let value = entry.value;
-    let digits = digits(entry.code);
-    direction(rt, entry.code)?;
+    let direction = Direction::from(entry.code);
+    let register = Register::try_from(entry.code);
+    let digits = digits(register);
+    print!(rt; "{direction}")?;
     space(rt)?;
-    register(rt, entry.code)?;
+    print_register(rt, register)?;
     space(rt)?;
     print!(rt; "{value:0digits$x}")
 }
 
 // The received bytes, without the line end.
 pub fn received(rt: &impl Print, bytes: &[u8]) -> io::Result<()> {
-    field(rt, b"rx")?;
-    for b in bytes {
-        byte(rt, *b)?;
+    print!(rt; "rx")?;
+    for byte in bytes {
+        space(rt)?;
+        print!(rt; "{byte:02x}")?;
     }
     Ok(())
 }
 
-// One received byte, with the space before it.
-fn byte(rt: &impl Print, b: u8) -> io::Result<()> {
-    space(rt)?;
-    print!(rt; "{b:02x}")
-}
-
-// One number of the last line, with the space before it.
-fn number(rt: &impl Print, n: u64) -> io::Result<()> {
-    space(rt)?;
-    print!(rt; "{n}")
-}
-
 // The answer and the four counts, in the order returned, without the line end.
-pub fn end(
-    rt: &impl Print,
-    answer: u32,
-    calls: usize,
-    used: usize,
-    made: usize,
-    got: usize,
-) -> io::Result<()> {
-    field(rt, b"end")?;
-    number(rt, answer as u64)?;
-    number(rt, calls as u64)?;
-    number(rt, used as u64)?;
-    number(rt, made as u64)?;
-    number(rt, got as u64)
+pub fn end(rt: &impl Print, counts: Counts) -> io::Result<()> {
+    print!(rt; "end")?;
+    for number in [
+        counts.answer as usize,
+        counts.calls,
+        counts.used,
+        counts.made,
+        counts.got,
+    ] {
+        space(rt)?;
+        print!(rt; "{number}")?;
+    }
+    Ok(())
 }

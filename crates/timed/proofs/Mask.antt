@@ -1,11 +1,11 @@
 -- One test of an SR1 word, for a flag and against the error flags of a poll.
 -- Assumes nothing.
 use Rattle.std.proofs.Common.{◌≡◌, ℕ, ◌+◌, ◌-◌, ◌*◌, ◌/◌, ◌%◌, ◌^◌, ◌<◌, Bool, true, false, cond, ◌&&◌, ◌||◌, eqb, sym, refl, ap, ◌∙◌, arith, eq-eqb, ne_eqb, eqb-true}
+use Rattle.std.specs.Prelude.{Option, Some, None}
 use lib.Bits.{bit_and, and_block, and_mask, and_high, and_zero_r}
 use borrow.Author.Tests.{eqb-false}
 use Rattle.registers.specs.declared.Awaited.{Awaited}
 use Rattle.registers.specs.declared.BusError.{BusError}
-use Rattle.registers.specs.declared.Flagged.{Flagged}
 use Rattle.registers.specs.declared.Source.{Source}
 use Rattle.registers.specs.Word.{has, BERR, ARLO, AF, OVR}
 use Rattle.registers.specs.Machine.{poll_word, poll_error, poll_ready}
@@ -39,13 +39,13 @@ clean : (n : Source) (v : ℕ) → no_error (poll_word n v) ≡ eqb (v / 256 % 1
 unfolding poll_word
 clean n v = go (v / 256 % 16) four (has BERR v) (has ARLO v) (has AF v) (has OVR v) refl refl refl refl
   where
-    flagged : Bool → Bool → Bool → Bool → Flagged
+    flagged : Bool → Bool → Bool → Bool → Option BusError
     flagged a b c d =
-        cond a (Flagged.Error BusError.Bus)
-        (cond b (Flagged.Error BusError.ArbitrationLoss)
-        (cond c (Flagged.Error (BusError.NoAcknowledge n))
-        (cond d (Flagged.Error BusError.Overrun)
-        Flagged.Nothing)))
+        cond a (Some BusError.Bus)
+        (cond b (Some BusError.ArbitrationLoss)
+        (cond c (Some (BusError.NoAcknowledge n))
+        (cond d (Some BusError.Overrun)
+        None)))
 
     four : v / 256 % 16 ≡ v / 256 % 2 + 2 * (v / 512 % 2) + 4 * (v / 1024 % 2) + 8 * (v / 2048 % 2)
     four = omega (arith, bits_from_berr v)

@@ -1,33 +1,33 @@
 -- Timed waits: what a poll and a CYC read make of the step, and how a wait ends.
 -- Assumes nothing.
-use Rattle.std.proofs.Common.{◌≡◌, ℕ, ◌+◌, ◌%◌, ◌^◌, ◌<◌, Bool, true, false, cond, ◌&&◌, leb, List, [], ◌∷◌, ◌++◌, refl, ◌∙◌, append-nil, arith}
+use Rattle.std.proofs.Common.{◌≡◌, ℕ, ◌+◌, ◌%◌, ◌^◌, ◌<◌, Bool, true, false, cond, ◌&&◌, leb, List, [], ◌∷◌, refl, sym, ap, ◌∙◌, append-nil, arith}
+use Rattle.std.specs.Prelude.{Option, Some, None, Result, Ok, Err, ⊤}
 use Rattle.units.specs.declared.Setup.{Setup}
 use Rattle.registers.specs.declared.Awaited.{Awaited}
-use Rattle.registers.specs.declared.Progress.{Progress}
 use Rattle.registers.specs.declared.BusError.{BusError}
-use Rattle.registers.specs.declared.Cut.{Cut}
-use Rattle.registers.specs.declared.Taken.{Taken}
-use Rattle.registers.specs.declared.Flagged.{Flagged}
-use Rattle.registers.specs.declared.Outcome.{Outcome}
-use Rattle.registers.specs.Access.{CYC, wSR1, is_read, is_data, clear_word, Access}
+use Rattle.registers.specs.declared.ReadCode.{ReadCode}
+use Rattle.registers.specs.declared.WriteCode.{WriteCode}
+use Rattle.registers.specs.declared.Stop.{Stop}
+use Rattle.registers.specs.declared.access.Bus.{Bus}
+use Rattle.registers.specs.Access.{is_data, clear_word, Access}
 use Rattle.registers.specs.Machine.{Step, Handler, Act, access, next, handle, clear, since, polled_register, poll_error, poll_ready, after_poll}
-use Rattle.registers.specs.State.{State, at, then, resume, write}
-use Rattle.registers.specs.Contract.{outcome, outcome_of, handled, ReadsFrom, WritesFrom, Reaches, WaitsFrom}
-use Rattle.registers.proofs.Laws.{write_law, write_unfailed}
-use Rattle.registers.proofs.Steps.{here, rewritten, read_step, read_stops, waits_well, waits_last}
-use Rattle.timed.specs.Poll.{no_error, over, failed_poll}
+use Rattle.registers.specs.State.{State, at, Took, Found, read}
+use Rattle.registers.specs.Contract.{read_code, state, Same, found_of, handled, Reads, Writes, Does, Reaches, Waits}
+use Rattle.registers.proofs.Laws.{write_unfailed}
+use Rattle.registers.proofs.Steps.{same_then, HandsOn, rewritten, write_does, call_step, call_stops, read_step, read_stops}
+use Rattle.timed.specs.Poll.{no_error, over, WaitsOn}
 
 -- what the value read makes of each step of a timed wait
 module _ (s : Setup) (w : Awaited) (l : ℕ) (h : Handler) where
-  next_timed : (v : ℕ) → next s (Step.timed w l h) v ≡ Step.poll w l h v ∷ []
+  pub next_timed : (v : ℕ) → next s (Step.timed w l h) v ≡ Step.poll w l h v ∷ []
   unfolding next
   next_timed v = refl
 
-  next_failed : (t v : ℕ) {a : BusError} → poll_error w v ≡ Flagged.Error a → next s (Step.poll w l h t) v ≡ clear a ∷ handle s h a
+  pub next_failed : (t v : ℕ) {a : BusError} → poll_error w v ≡ Some a → next s (Step.poll w l h t) v ≡ clear a ∷ handle s h a
   unfolding next after_poll
   next_failed t v e = rw e
 
-  next_polled : (t v : ℕ) {u : Bool} → poll_error w v ≡ Flagged.Nothing → poll_ready w v ≡ u → next s (Step.poll w l h t) v ≡ cond u [] (Step.late w l h t ∷ [])
+  next_polled : (t v : ℕ) {u : Bool} → poll_error w v ≡ None → poll_ready w v ≡ u → next s (Step.poll w l h t) v ≡ cond u [] (Step.late w l h t ∷ [])
   unfolding next after_poll
   next_polled t v e f = rw (e, f)
 
@@ -36,80 +36,88 @@ module _ (s : Setup) (w : Awaited) (l : ℕ) (h : Handler) where
   next_late t v e = rw e
 
 -- the register that a poll reads is no DR
-pub polled_read : (w : Awaited) → is_read (polled_register w) ≡ true
-polled_read (Awaited.Flag f n) = refl
-polled_read Awaited.Stop = refl
-
 polled_other : (w : Awaited) → is_data (polled_register w) ≡ false
 polled_other (Awaited.Flag f n) = refl
 polled_other Awaited.Stop = refl
 
 -- a poll, by the word that it read: over; an error; else to the next CYC read
 module _ (w : Awaited) (v : ℕ) where
-  over_is : {u : Bool} {f : Flagged} → over w v ≡ u → poll_error w v ≡ f → no_error f && poll_ready w v ≡ u
+  over_is : {u : Bool} {f : Option BusError} → over w v ≡ u → poll_error w v ≡ f → no_error f && poll_ready w v ≡ u
   unfolding over
   over_is e f = rw f at e
 
-  over_clean : over w v ≡ true → poll_error w v ≡ Flagged.Nothing
+  over_clean : over w v ≡ true → poll_error w v ≡ None
   over_clean e = go (poll_error w v) (over_is e refl)
     where
-      go : (f : Flagged) → no_error f && poll_ready w v ≡ true → f ≡ Flagged.Nothing
-      go (Flagged.Error a) k = absurd (let z : ◌≡◌ {A = ℕ} 0 1 = cc in omega arith)
-      go Flagged.Nothing k = refl
+      go : (f : Option BusError) → no_error f && poll_ready w v ≡ true → f ≡ None
+      go (Some a) k = absurd (let z : ◌≡◌ {A = ℕ} 0 1 = cc in omega arith)
+      go None k = refl
 
-module _ (s : Setup) (w : Awaited) (l : ℕ) (h : Handler) (t v : ℕ) where
-  pub next-over : over w v ≡ true → next s (Step.poll w l h t) v ≡ []
-  next-over e = next_polled s w l h t v (over_clean w v e) (over_is w v e (over_clean w v e))
+pub next-over : (s : Setup) (w : Awaited) (l : ℕ) (h : Handler) (t v : ℕ) → over w v ≡ true → next s (Step.poll w l h t) v ≡ []
+next-over s w l h t v e = next_polled s w l h t v (over_clean w v e) (over_is w v e (over_clean w v e))
 
-  pub next_waits : over w v ≡ false → poll_error w v ≡ Flagged.Nothing → next s (Step.poll w l h t) v ≡ Step.late w l h t ∷ []
-  next_waits e n = next_polled s w l h t v n (over_is w v e n)
+module _ {q : List Step} {b b₁ : Bus} (w : Awaited) (l : ℕ) (h : Handler) (t v : ℕ) (g : Reaches q b (next b.setup (Step.poll w l h t) v) b₁) where
+  pub to_end : over w v ≡ true → Reaches q b [] b₁
+  to_end e = rewritten (next-over b.setup w l h t v e) g
 
--- a wait whose poll found an error: its flag cleared, then the handler
-pub wait_failed : {s : Setup} {h : Handler} {q : List Step} {st : State} (w : Awaited) (l t v : ℕ) {rs lg rx : List ℕ} {b : Progress}
-    → Reaches s q st (next s (Step.poll w l h t) v) (at rs lg rx b) → {a : BusError} → poll_error w v ≡ Flagged.Error a
-    → {lg' : List ℕ} {o : Outcome} → WritesFrom wSR1 (clear_word a) (at rs lg rx b) rs lg' rx o → WaitsFrom s h q st rs lg' rx (failed_poll o a)
-wait_failed {s} {h} {q} {st} w l t v {rs} {lg} {rx} {b} g {a} n {lg'} {o} y =
-    record { is = λ p. (rewritten (next_failed s w l h t v n) g).is p ∙ write_law s wSR1 (clear_word a) (handle s h a ++ p) (at rs lg rx b) refl ∙ rw (← y.is) (go p o y.is) }
+  pub to_late : over w v ≡ false → poll_error w v ≡ None → Reaches q b (Step.late w l h t ∷ []) b₁
+  to_late e n = rewritten (next_polled b.setup w l h t v n (over_is w v e n)) g
+
+-- a wait that is cut short
+cut_waits : {h : Handler} {q : List Step} {b b' : Bus} {stop : Stop} {r : Result ⊤ Stop} → HandsOn stop r → ((e : BusError) → stop ≡ Stop.Failed e → ⊥) → Does q b b' r → Waits h q b b' r
+cut_waits {h} {q} {b} {b'} {stop} {r} u n x = go r stop u n x
   where
-    go : (p : List Step) (o : Outcome) → outcome rs lg' rx o ≡ write wSR1 (clear_word a) (at rs lg rx b)
-        → then (outcome rs lg' rx o) (resume s (handle s h a ++ p)) ≡ handled s h rs lg' rx (failed_poll o a) p
-    go p (Outcome.Well b₁) y = refl
-    go p (Outcome.Failed e b₁) y = absurd (write_unfailed wSR1 (clear_word a) (at rs lg rx b) y)
-    go p (Outcome.CutShort c b₁) y = refl
+    go : (r : Result ⊤ Stop) (stop : Stop) → HandsOn stop r → ((e : BusError) → stop ≡ Stop.Failed e → ⊥) → Does q b b' r → Waits h q b b' r
+    go (Ok t) stop u n x = absurd (let z : ◌≡◌ {A = ℕ} 0 1 = cc in omega arith)
+    go (Err (Stop.Failed e)) stop u n x = absurd (n e (sym u.1))
+    go (Err (Stop.CutShort c)) stop u n x = record { same = x.same; is = λ p. x.is p }
+
+-- a read does not fail
+read_unfailed : {c : ReadCode} {b b' : Bus} {r : Result ℕ Stop} {stop : Stop} → Reads c b b' r → r ≡ Err stop → (e : BusError) → stop ≡ Stop.Failed e → ⊥
+read_unfailed {c} {b} {b'} x f e g = go (read (read_code c) (state b)) (rw (f, g) at x.is)
+  where
+    go : (t : Took) → Found.failed e (state b') ≡ found_of t → ⊥
+    go (Took.word v st) k = let z : ◌≡◌ {A = ℕ} 0 1 = cc in omega arith
+    go (Took.cut_short c st) k = let z : ◌≡◌ {A = ℕ} 0 1 = cc in omega arith
+
+-- a wait ends by its handler's steps
+pub ends_handled : {h : Handler} {q : List Step} {b b₁ : Bus} {e : BusError} → Reaches q b (handle b.setup h e) b₁ → Waits h q b b₁ (Err (Stop.Failed e))
+ends_handled g = record { same = g.same; is = λ p. g.is p }
+
+-- a wait ends where a read has no word, and where its error flag is not cleared
+module _ {h : Handler} {q : List Step} {b : Bus} {i : Step} {q₁ : List Step} {b₁ : Bus} (g : Reaches q b (i ∷ q₁) b₁)
+    {c : ReadCode} {b₂ : Bus} {r : Result ℕ Stop} (x : Reads c b₁ b₂ r) (a : access i ≡ Act.make (Access.read (read_code c))) where
+  pub wait_unread : {stop : Stop} {r' : Result ⊤ Stop} → r ≡ Err stop → HandsOn stop r' → Waits h q b b₂ r'
+  wait_unread e u = cut_waits u (read_unfailed x e) (read_stops g x a e u)
+
+module _ {h : Handler} {q : List Step} {b b₁ : Bus} (w : Awaited) (l t v : ℕ) (g : Reaches q b (next b.setup (Step.poll w l h t) v) b₁)
+    {a : BusError} (n : poll_error w v ≡ Some a) {b₂ : Bus} {r : Result ⊤ Stop} (y : Writes WriteCode.Sr1 (clear_word a) b₁ b₂ r) where
+  pub wait_uncleared : {stop : Stop} {r' : Result ⊤ Stop} → r ≡ Err stop → HandsOn stop r' → Waits h q b b₂ r'
+  wait_uncleared e u = cut_waits u (λ d f. write_unfailed _ _ (state b₁) (rw (e, f) at y.is)) (call_stops (write_does y) _ (rewritten (next_failed b.setup w l h t v n) g) e u)
+
+  pub wait_failed : {k : ⊤} → r ≡ Ok k → Waits h q b b₂ (Err (Stop.Failed a))
+  wait_failed e = ends_handled (call_step (write_does y) (handle b.setup h a) (rewritten (next_failed b.setup w l h t v n) g) e)
 
 -- a poll's read
-pub poll_step : {s : Setup} {q : List Step} {st : State} {w : Awaited} {l : ℕ} {h : Handler} {t : ℕ} {st₁ : State} → Reaches s q st (Step.poll w l h t ∷ []) st₁
-    → {rs lg rx : List ℕ} {r : Taken} → ReadsFrom (polled_register w) st₁ rs lg rx r → {v : ℕ} {b : Progress} → r ≡ Taken.Word v b
-    → Reaches s q st (next s (Step.poll w l h t) v) (at rs lg rx b)
-poll_step {w = w} g x e = rewritten (append-nil _) (read_step g x refl (polled_read w) (polled_other w) e refl)
-
--- a wait ends where a read has no word, and by its handler's steps
-pub wait_none : {s : Setup} {h : Handler} {q : List Step} {st : State} {i : Step} {q₁ : List Step} {st₁ : State} → Reaches s q st (i ∷ q₁) st₁
-    → {c : ℕ} {rs lg rx : List ℕ} {r : Taken} → ReadsFrom c st₁ rs lg rx r → access i ≡ Act.make (Access.read c) → is_read c ≡ true
-    → {k : Cut} {b : Progress} → r ≡ Taken.CutShort k b → WaitsFrom s h q st rs lg rx (outcome_of r)
-wait_none g x a t e = record { is = λ p. (read_stops g x a t e).is p ∙ rw e }
-
-pub ends_handled : {s : Setup} {h : Handler} {q : List Step} {st : State} {rs lg rx : List ℕ} {e : BusError} {b : Progress}
-    → Reaches s q st (handle s h e ++ []) (at rs lg rx b) → WaitsFrom s h q st rs lg rx (Outcome.Failed e b)
-ends_handled g = record { is = λ p. g.is p ∙ rw append-nil }
-
--- a wait by its first CYC read and its first poll: no word; over at once; or the rest of it
-module _ {s : Setup} {w : Awaited} {l : ℕ} {h : Handler} {st : State} {rs lg rx : List ℕ} {r : Taken} (x : ReadsFrom CYC st rs lg rx r) {t : ℕ} {b : Progress} (e : r ≡ Taken.Word t b)
-    {lg' : List ℕ} {r' : Taken} (y : ReadsFrom (polled_register w) (at rs lg rx b) rs lg' rx r') where
-  first_poll : Reaches s (Step.timed w l h ∷ []) st (Step.poll w l h t ∷ []) (at rs lg rx b)
-  first_poll = read_step here x refl refl refl e (next_timed s w l h t)
-
-  pub wait_unread : {k : Cut} {b' : Progress} → r' ≡ Taken.CutShort k b' → WaitsFrom s h (Step.timed w l h ∷ []) st rs lg' rx (outcome_of r')
-  wait_unread n = wait_none first_poll y refl (polled_read w) n
-
-  module _ {v : ℕ} {b' : Progress} (f : r' ≡ Taken.Word v b') where
-    pub wait_at_once : over w v ≡ true → WaitsFrom s h (Step.timed w l h ∷ []) st rs lg' rx (Outcome.Well b')
-    wait_at_once o = waits_well (rewritten (next-over s w l h t v o) (poll_step first_poll y f))
-
-    pub wait_longer : {lg'' : List ℕ} {o : Outcome} → WaitsFrom s h (next s (Step.poll w l h t) v) (at rs lg' rx b') rs lg'' rx o → WaitsFrom s h (Step.timed w l h ∷ []) st rs lg'' rx o
-    wait_longer z = waits_last (poll_step first_poll y f) z
+pub poll_step : {q : List Step} {b : Bus} {w : Awaited} {l : ℕ} {h : Handler} {t : ℕ} {b₁ : Bus} → Reaches q b (Step.poll w l h t ∷ []) b₁
+    → {c : ReadCode} → read_code c ≡ polled_register w → {b₂ : Bus} {r : Result ℕ Stop} → Reads c b₁ b₂ r → {v : ℕ} → r ≡ Ok v
+    → Reaches q b (next b.setup (Step.poll w l h t) v) b₂
+poll_step {w = w} g f x e = rewritten (append-nil _) (read_step g x (rw f) (rw f (polled_other w)) e refl)
 
 -- the wrapped difference
 pub since_is : (r t v : ℕ) → (r + t) % 2 ^ 32 ≡ v → r < 2 ^ 32 → t < 2 ^ 32 → r ≡ since t v
 unfolding since
 since_is r t v e h k = omega arith
+
+-- the polls of a wait by the parts of the bus, whose buffers hold at the end what they were left with
+pub by_parts : {s : Setup} {w : Awaited} {l t v : ℕ} {b b' : Bus} {r : Result ⊤ Stop} → s ≡ b.setup → ((h : Handler) → Waits h (next b.setup (Step.poll w l h t) v) b b' r) → {lg rx : List ℕ}
+    → lg ≡ b'.log.now → rx ≡ b'.rx.now → WaitsOn s w l t v (state b) (at b.readings.now lg rx b'.progress) r
+by_parts {b = b} {b'} {r} u x {lg} {rx} e f = record { is = λ h p. rw u ((x h).is p ∙ ap (λ (st : State). handled b.setup h st r p) (left_at (x h).same.readings)) }
+  where
+    left_at : b'.readings.now ≡ b.readings.now → state b' ≡ at b.readings.now lg rx b'.progress
+    left_at n = rw (n, e, f)
+
+-- and then the bus has them
+pub waits_by_parts : {q : List Step} {b b₁ : Bus} {w : Awaited} {l t v : ℕ} {h : Handler} → Reaches q b (next b.setup (Step.poll w l h t) v) b₁ → {b₂ : Bus} → Same b₁ b₂
+    → {r : Result ⊤ Stop} → WaitsOn b₁.setup w l t v (state b₁) (state b₂) r → Waits h q b b₂ r
+waits_by_parts {h = h} g y x = record { same = same_then g.same y; is = λ p. g.is p ∙ rw (← g.same.setup) (x.is h p) }

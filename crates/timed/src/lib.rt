@@ -1,48 +1,49 @@
 // Timed waits, named as the macros of the Rust's src/i2c/blocking.rs: one poll, and polls until the time is out.
 #![tactic(auto)]
 
-ghost use Rattle.std.specs.Prelude.{◌≡◌, true, [], ◌∷◌, nat_le};
-ghost use Rattle.units.specs.declared.Setup.{Setup};
+ghost use Rattle.std.specs.Prelude.{◌≡◌, ◌≤◌, true, [], ◌∷◌, nat_le};
 ghost use Rattle.registers.specs.declared.Awaited.{Awaited};
 ghost use Rattle.registers.specs.declared.Source.{Source};
 ghost use Rattle.registers.specs.Machine.{Step, Handler, next, poll_word, poll_error, polled_register, since};
-ghost use Rattle.registers.specs.Contract.{Waits};
-ghost use Rattle.timed.specs.Poll.{waited_flag, waited, over, failed_poll};
+ghost use Rattle.registers.specs.State.{at};
+ghost use Rattle.registers.specs.Contract.{read_code, Waits};
+ghost use Rattle.timed.specs.Poll.{waited_flag, waited, over, WaitsOn};
 
-use registers::{
-    Awaited, BusError, Flagged, Outcome, Progress, Source, Taken, clear_flag, has, outcome_of, read,
-};
-use units::Cycles;
+use registers::{Awaited, Bus, BusError, Progress, ReadCode, Source, Stop, has};
+use units::{Cycles, Setup};
 
 // BERR, ARLO, AF and OVR.
 const ERRORS: u32 = 0x0f00;
 
-// The first error flag of an SR1 word, as a poll takes them.
-fn flag_error(sr1: u32, source: Source) -> Flagged
+// The first error flag of an SR1 word, as a poll takes them. Other flags in another order than in a check: one function
+// over two lists of pairs is no plainer.
+#[tactic(auto, unfolding(registers::specs::Machine::poll_word))]
+fn flag_error(sr1: u32, source: Source) -> Option<BusError>
     ensures { result ≡ poll_word source sr1 }
 {
     if has(sr1, registers::BERR) {
-        return Flagged::Error(BusError::Bus);
+        return Some(BusError::Bus);
     }
     if has(sr1, registers::ARLO) {
-        return Flagged::Error(BusError::ArbitrationLoss);
+        return Some(BusError::ArbitrationLoss);
     }
     if has(sr1, registers::AF) {
-        return Flagged::Error(BusError::NoAcknowledge(source));
+        return Some(BusError::NoAcknowledge(source));
     }
     if has(sr1, registers::OVR) {
-        return Flagged::Error(BusError::Overrun);
+        return Some(BusError::Overrun);
     }
-    Flagged::Nothing
+    None
 }
 
-// The error that a poll finds in the word that it read.
-fn poll_error(word: u32, awaited: Awaited) -> Flagged
+// The error that a poll finds in the word that it read. This and the next two ask which wait it is, as the definitions do.
+#[tactic(auto, unfolding(registers::specs::Machine::poll_error))]
+fn poll_error(word: u32, awaited: Awaited) -> Option<BusError>
     ensures { result ≡ poll_error awaited word }
 {
     match awaited {
         Awaited::Flag(_, source) => flag_error(word, source),
-        Awaited::Stop => Flagged::Nothing,
+        Awaited::Stop => None,
     }
 }
 
@@ -55,6 +56,7 @@ pub fn wait_for_flag(sr1: u32, flag: u32) -> bool
 }
 
 // Whether a CR1 word has STOP clear.
+#[tactic(auto, unfolding(registers::specs::Machine::poll_error, registers::specs::Machine::poll_ready, crate::specs::Poll::over))]
 fn wait_for_stop(cr1: u32) -> bool
     ensures { result ≡ over Awaited.Stop cr1 }
 {
@@ -73,12 +75,12 @@ fn wait_over(word: u32, awaited: Awaited) -> bool
 }
 
 // The register that a poll reads.
-fn polled_register(awaited: Awaited) -> u32
-    ensures { result ≡ polled_register awaited }
+fn polled_register(awaited: Awaited) -> ReadCode
+    ensures { read_code result ≡ polled_register awaited }
 {
     match awaited {
-        Awaited::Flag(_, _) => registers::SR1,
-        Awaited::Stop => registers::CR1,
+        Awaited::Flag(_, _) => ReadCode::Sr1,
+        Awaited::Stop => ReadCode::Cr1,
     }
 }
 
@@ -89,114 +91,85 @@ fn timed_out(start: u32, cycles: u32, limit: Cycles) -> bool
     limit.0 <= std::num::wrapping_sub_u32(cycles, start) as u64
 }
 
-// A poll whose error flag was cleared with this outcome.
-fn failed_poll(o: Outcome, error: BusError) -> Outcome
-    ensures { result ≡ failed_poll o error }
+// The polls of a timed wait that goes on, the last of which read this word. Its error is left to the caller.
+#[inline(always)]
+fn poll_on(
+    bus: &mut Bus,
+    word: u32,
+    awaited: Awaited,
+    start: u32,
+    limit: Cycles,
+) -> Result<(), Stop>
+    requires { waited awaited ≡ true }
+    ensures { (h : Handler) → Waits h (next bus.old.setup (Step.poll awaited limit.0 h start) word) bus.old bus.new result }
 {
-    match o {
-        Outcome::Well(progress) => Outcome::Failed(error, progress),
-        Outcome::Failed(e, progress) => Outcome::Failed(e, progress),
-        Outcome::CutShort(cut, progress) => Outcome::CutShort(cut, progress),
+    let mut word = word;
+    while !wait_over(word, awaited) {
+        if let Some(error) = poll_error(word, awaited) {
+            bus.clear_flag(error)?;
+            return Err(Stop::Failed(error));
+        }
+        let cycles = bus.read(ReadCode::Cyc)?;
+        if timed_out(start, cycles, limit) {
+            return Err(Stop::Failed(BusError::Timeout));
+        }
+        word = bus.read(polled_register(awaited))?;
     }
+    Ok(())
 }
 
-// The rest of a timed wait whose poll has read this word. Its error is left to the caller.
-fn busy_wait(
+// The same, not inlined. It takes the bus by its parts: a call that takes `&mut Bus` keeps the bus in
+// memory in each function that waits.
+#[cold]
+#[inline(never)]
+fn busy_wait_on(
+    setup: Setup,
     readings: &[u32],
     log: &mut [u32],
+    rx: &mut [u8],
     progress: Progress,
     word: u32,
     awaited: Awaited,
     start: u32,
     limit: Cycles,
-) -> Outcome
+) -> (Progress, Result<(), Stop>)
+    requires { (waited awaited ≡ true) × (progress.got ≤ progress.used) }
+    ensures waits { WaitsOn setup awaited limit.0 start word (at readings.now log.old rx.old progress) (at readings.now log.new rx.new result.0) result.1 }
+    ensures fewer { result.0.got ≤ result.0.used }
+{
+    let mut bus = Bus {
+        setup,
+        readings,
+        log,
+        rx,
+        progress,
+    };
+    let waited = poll_on(&mut bus, word, awaited, start, limit);
+    (bus.progress, waited)
+}
+
+// A timed wait. Its error is left to the caller.
+#[inline(always)]
+pub fn busy_wait(bus: &mut Bus, awaited: Awaited, limit: Cycles) -> Result<(), Stop>
     requires { waited awaited ≡ true }
-    ensures { (s : Setup) (h : Handler) → Waits s h (next s (Step.poll awaited limit.0 h start) word) readings log progress result }
+    ensures { (h : Handler) → Waits h (Step.timed awaited limit.0 h ∷ []) bus.old bus.new result }
 {
-    let mut progress = progress;
-    let mut word = word;
-    while !wait_over(word, awaited) {
-        let flagged = poll_error(word, awaited);
-        if let Flagged::Error(error) = flagged {
-            return failed_poll(clear_flag(log, progress, error), error);
-        }
-        let c = read(readings, log, progress, registers::CYC);
-        let Taken::Word(cycles, later) = c else {
-            return outcome_of(c);
-        };
-        if timed_out(start, cycles, limit) {
-            return Outcome::Failed(BusError::Timeout, later);
-        }
-        let d = read(readings, log, later, polled_register(awaited));
-        let Taken::Word(again, next) = d else {
-            return outcome_of(d);
-        };
-        progress = next;
-        word = again;
+    let start = bus.read(ReadCode::Cyc)?;
+    let word = bus.read(polled_register(awaited))?;
+    if wait_over(word, awaited) {
+        return Ok(());
     }
-    Outcome::Well(progress)
-}
-
-// A timed wait for a flag of SR1. Its error is left to the caller.
-pub fn busy_wait_flag(
-    readings: &[u32],
-    log: &mut [u32],
-    progress: Progress,
-    flag: u32,
-    source: Source,
-    limit: Cycles,
-) -> Outcome
-    requires { waited_flag flag ≡ true }
-    ensures { (s : Setup) (h : Handler) → Waits s h (Step.timed (Awaited.Flag flag source) limit.0 h ∷ []) readings log progress result }
-{
-    let c = read(readings, log, progress, registers::CYC);
-    let Taken::Word(start, progress1) = c else {
-        return outcome_of(c);
-    };
-    let d = read(readings, log, progress1, registers::SR1);
-    let Taken::Word(sr1, progress2) = d else {
-        return outcome_of(d);
-    };
-    if wait_for_flag(sr1, flag) {
-        return Outcome::Well(progress2);
-    }
-    // A copy, so that progress2 is never in memory where the wait is over at once.
-    let waiting = Progress {
-        used: progress2.used,
-        made: progress2.made,
-        got: progress2.got,
-    };
-    let awaited = Awaited::Flag(flag, source);
-    let o = busy_wait(readings, log, waiting, sr1, awaited, start, limit);
-    o
-}
-
-// A timed wait for STOP to clear in CR1.
-pub fn busy_wait_stop(
-    readings: &[u32],
-    log: &mut [u32],
-    progress: Progress,
-    limit: Cycles,
-) -> Outcome
-    ensures { (s : Setup) (h : Handler) → Waits s h (Step.timed Awaited.Stop limit.0 h ∷ []) readings log progress result }
-{
-    let c = read(readings, log, progress, registers::CYC);
-    let Taken::Word(start, progress1) = c else {
-        return outcome_of(c);
-    };
-    let d = read(readings, log, progress1, registers::CR1);
-    let Taken::Word(cr1, progress2) = d else {
-        return outcome_of(d);
-    };
-    if wait_for_stop(cr1) {
-        return Outcome::Well(progress2);
-    }
-    // A copy, as for a flag.
-    let waiting = Progress {
-        used: progress2.used,
-        made: progress2.made,
-        got: progress2.got,
-    };
-    let o = busy_wait(readings, log, waiting, cr1, Awaited::Stop, start, limit);
-    o
+    let (progress, waited) = busy_wait_on(
+        bus.setup,
+        bus.readings,
+        &mut *bus.log,
+        &mut *bus.rx,
+        bus.progress,
+        word,
+        awaited,
+        start,
+        limit,
+    );
+    bus.progress = progress;
+    waited
 }

@@ -1,6 +1,7 @@
 -- The speed words (document 01, "Bring-up"). M is pclk1 in whole megahertz.
-use Rattle.std.specs.Prelude.{ℕ, zero, suc, ◌+◌, ◌*◌, ◌/◌, ◌%◌, Bool, cond, ◌||◌, eqb, leb, ltb}
+use Rattle.std.specs.Prelude.{ℕ, zero, suc, ◌≡◌, ◌+◌, ◌*◌, ◌/◌, ◌%◌, Bool, true, false, cond, ◌||◌, eqb, leb, ltb, Result, MatchResult}
 use Rattle.units.specs.declared.Hertz.{Hertz}
+use Rattle.units.specs.declared.UnknownMode.{UnknownMode}
 use Rattle.units.specs.declared.DutyCycle.TheVariants.{Ratio2to1, Ratio16to9}
 use Rattle.units.specs.declared.Mode.{Mode}
 use Rattle.units.specs.declared.Mode.TheVariants.{Standard, Fast}
@@ -15,6 +16,10 @@ abbrev pub mode_of : ℕ → Mode
 mode_of zero = Standard
 mode_of (suc zero) = Fast Ratio2to1
 mode_of (suc (suc n)) = Fast Ratio16to9
+
+-- the mode that a known number stands for, or the number as an error
+abbrev pub DecodesMode : ℕ → Result Mode UnknownMode → Type 0
+DecodesMode number r = MatchResult r (λ mode. (mode_known number ≡ true) × (mode ≡ mode_of number)) (λ e. (mode_known number ≡ false) × (e.0 ≡ number))
 
 -- cause 22: frequency 0 or above 400,000
 abbrev pub frequency_out : Hertz → Bool

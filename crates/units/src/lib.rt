@@ -1,9 +1,9 @@
 // Units of frequency and time, the settings of a run, and the register words that they give.
 #![tactic(auto)]
 
-ghost use Rattle.std.specs.Prelude.{◌≡◌, ◌*◌, ◌/◌, ◌<◌};
+ghost use Rattle.std.specs.Prelude.{◌≡◌, ◌<◌};
 ghost use Rattle.units.specs.Time.{to_mhz, to_cycles};
-ghost use Rattle.units.specs.Speed.{mode_known, mode_of, frequency_out, cr2_word, trise_word, divisor, floor, speed_flags, ccr_field, ccr_word};
+ghost use Rattle.units.specs.Speed.{mode_of, DecodesMode, frequency_out, cr2_word, trise_word, divisor, floor, speed_flags, ccr_word};
 ghost use Rattle.units.specs.Setup.{setup_of};
 
 // A clock or a bus frequency.
@@ -62,7 +62,7 @@ pub fn to_mhz(clock: Hertz) -> u32
     clock.0 / 1_000_000
 }
 
-// The one conversion of a unit into another.
+// The one conversion of a unit into another. A function and no From: it takes the clock too.
 pub fn to_cycles(timeout: Micros, sysclk: Hertz) -> Cycles
     ensures { result ≡ to_cycles timeout sysclk }
 {
@@ -71,29 +71,37 @@ pub fn to_cycles(timeout: Micros, sysclk: Hertz) -> Cycles
     Cycles(micros * mhz)
 }
 
-// Whether the number stands for a mode.
-pub fn mode_known(number: u32) -> bool
-    ensures { result ≡ mode_known number }
-{
-    number <= 2
+// A number that stands for no mode.
+#[derive(Clone, Copy)]
+pub struct UnknownMode(pub u32);
+
+impl TryFrom<u32> for Mode {
+    type Error = UnknownMode;
+
+    ghost try_from_gives = { DecodesMode };
+
+    fn try_from(number: u32) -> Result<Self, UnknownMode> {
+        match number {
+            0 => Ok(Mode::Standard),
+            1 => Ok(Mode::Fast(DutyCycle::Ratio2to1)),
+            2 => Ok(Mode::Fast(DutyCycle::Ratio16to9)),
+            _ => Err(UnknownMode(number)),
+        }
+    }
 }
 
-// The mode that a known number stands for.
+// The mode of a number that need not be known: the settings can be read of any list.
 pub fn mode_of(number: u32) -> Mode
     ensures { result ≡ mode_of number }
 {
-    match number {
-        0 => Mode::Standard,
-        1 => Mode::Fast(DutyCycle::Ratio2to1),
-        _ => Mode::Fast(DutyCycle::Ratio16to9),
-    }
+    Mode::try_from(number).unwrap_or(Mode::Fast(DutyCycle::Ratio16to9))
 }
 
 // Cause 22.
 pub fn frequency_out(frequency: Hertz) -> bool
     ensures { result ≡ frequency_out frequency }
 {
-    (frequency.0 == 0) | (frequency.0 > 400_000)
+    !(1..=400_000).contains(&frequency.0)
 }
 
 pub fn cr2_word(pclk1: Hertz) -> u32
@@ -112,59 +120,47 @@ pub fn trise_word(pclk1: Hertz, mode: Mode) -> u32
     }
 }
 
-// A mode's divisor of the frequency.
-fn divisor(mode: Mode) -> u64
-    ensures { result ≡ divisor mode }
-{
-    match mode {
-        Mode::Standard => 2,
-        Mode::Fast(duty_cycle) => match duty_cycle {
-            DutyCycle::Ratio2to1 => 3,
-            DutyCycle::Ratio16to9 => 25,
-        },
+impl Mode {
+    // A mode's divisor of the frequency.
+    fn divisor(self) -> u64
+        ensures { result ≡ divisor self }
+    {
+        match self {
+            Mode::Standard => 2,
+            Mode::Fast(DutyCycle::Ratio2to1) => 3,
+            Mode::Fast(DutyCycle::Ratio16to9) => 25,
+        }
     }
-}
 
-// A mode's least CCR field.
-fn floor(mode: Mode) -> u64
-    ensures { result ≡ floor mode }
-{
-    match mode {
-        Mode::Standard => 4,
-        Mode::Fast(_) => 1,
+    // A mode's least CCR field.
+    fn floor(self) -> u64
+        ensures { result ≡ floor self }
+    {
+        match self {
+            Mode::Standard => 4,
+            Mode::Fast(_) => 1,
+        }
     }
-}
 
-// F/S and DUTY.
-fn speed_flags(mode: Mode) -> u32
-    ensures { result ≡ speed_flags mode }
-{
-    match mode {
-        Mode::Standard => 0,
-        Mode::Fast(duty_cycle) => match duty_cycle {
-            DutyCycle::Ratio2to1 => 0x8000,
-            DutyCycle::Ratio16to9 => 0xc000,
-        },
+    // F/S and DUTY.
+    fn speed_flags(self) -> u32
+        ensures { result ≡ speed_flags self }
+    {
+        match self {
+            Mode::Standard => 0,
+            Mode::Fast(DutyCycle::Ratio2to1) => 0x8000,
+            Mode::Fast(DutyCycle::Ratio16to9) => 0xc000,
+        }
     }
-}
-
-fn ccr_field(pclk1: Hertz, mode: Mode, frequency: Hertz) -> u64
-    requires { 0 < frequency.0 }
-    ensures { result ≡ ccr_field pclk1 mode frequency }
-{
-    let clock = pclk1.0 as u64;
-    let period = divisor(mode) * (frequency.0 as u64);
-    let field = clock / period;
-    let least = floor(mode);
-    if field < least { least } else { field }
 }
 
 pub fn ccr_word(pclk1: Hertz, mode: Mode, frequency: Hertz) -> u32
     requires { 0 < frequency.0 }
     ensures { result ≡ ccr_word pclk1 mode frequency }
 {
-    let field = (ccr_field(pclk1, mode, frequency) % 4096) as u32;
-    field + speed_flags(mode)
+    let period = mode.divisor() * frequency.0 as u64;
+    let field = (pclk1.0 as u64 / period).max(mode.floor());
+    (field % 4096) as u32 + mode.speed_flags()
 }
 
 #[tactic(auto, unfolding(crate::specs::Setup::setup_of))]

@@ -1,14 +1,10 @@
-use Rattle.std.proofs.Common.{sym, ◌∙◌}
-use Rattle.buslist.proofs.Walk.{any_here, any_later, any_none}
+use Rattle.std.proofs.Common.{rules, tests}
+use Rattle.buslist.specs.Table.{call_at}
+use Rattle.buslist.specs.Entries.{entries_left}
+use Rattle.buslist.specs.Refusal.{write_after_read}
+use Rattle.acceptance.proofs.Chains.{any_left}
 use Rattle.acceptance.proofs.any_write_after_read.Goals as goal
 
-pub returns-then-write_after_read : goal.returns-then-write_after_read
-returns-then-write_after_read c =
-    sym (c.loop-k.invariant ∙ any_here _ _ c.loop-k.k _ c.loop-k-test.true (rw (← c.call_at.ensures) (sym c.if-write_after_read.ensures)))
-
-pub loop-k-preserved : goal.loop-k-preserved
-loop-k-preserved c =
-    c.loop-k.invariant ∙ any_later _ _ c.loop-k.k _ c.loop-k-test.true (rw (← c.call_at.ensures) (sym c.if-write_after_read.ensures))
-
 pub returns : goal.returns
-returns c = sym (c.loop-k.invariant ∙ any_none _ _ c.loop-k.k _ c.loop-k-test.false)
+returns c =
+    any_left (λ s. entries_left call_at s.list.now s.left) (write_after_read c.args.list.now) c.calls.ensures.items c.any.new.self _ _ c.any.ensures.ran (λ x b q k. search (rules, tests))

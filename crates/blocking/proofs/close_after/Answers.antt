@@ -15,7 +15,7 @@ stays_open s Previous.Read h = refl
 
 pub returns-in-Write : goal.returns-in-Write
 unfolding close_after
-returns-in-Write c rx = rw c.in-Write.is (c.close.ensures rx)
+returns-in-Write c = rw c.in-Write.is c.close.ensures
 
 pub returns-in_default : goal.returns-in_default
-returns-in_default c rx = ends_well (rewritten (stays_open _ _ c.in_default.not-Write) here)
+returns-in_default c = ends_well (rewritten (stays_open _ _ c.in_default.not-Write) here)

@@ -1,38 +1,37 @@
-use Prim.Native.Nat.{ℕ, ◌-◌, ◌<◌, ◌≤◌}
-use native.Mathlib.Omega.{arith}
 use mathlib.Core.Path.{◌≡◌, refl}
 use mathlib.Core.List.{List, [], ◌∷◌, ◌++◌}
-use lib.ListN.{length, take, drop, get_or}
-use lib.Seq.{take_all}
+use Prim.Native.Nat.{ℕ}
 use Rattle.units.specs.declared.Setup.{Setup}
 use Rattle.registers.specs.Word.{BTF}
 use Rattle.registers.specs.Access.{SR1, SR2, wDR}
-use Rattle.registers.specs.Machine.{Step}
+use Rattle.registers.specs.Machine.{Step, Handler}
+use Rattle.registers.proofs.Steps.{here, rewritten, waits_at_setup, write_does, call_step, wait_step, waits_last}
 use Rattle.blocking_write.specs.Write.{read_status, write_wait, later_bytes, write_bytes_and_wait}
 use Rattle.blocking_write.proofs.Stops.{wait_stops, nothing_fails, get_unfailing, put_unfailing, settles}
-use Rattle.registers.proofs.Steps.{here, call_step, rewritten, wait_step, waits_last}
 use Rattle.blocking_write.proofs.write_bytes_and_wait.Goals as goal
 
--- the first byte, and the part of the slice after it
-its_bytes : (s : Setup) (bs : List ℕ) → 0 < length bs
-    → write_bytes_and_wait s bs ≡ (read_status ++ Step.put wDR (get_or bs 0 0) ∷ []) ++ (later_bytes s (take (length bs - 1) (drop 1 bs)) ++ write_wait s BTF ∷ [])
+its_bytes : (s : Setup) (byte : ℕ) (bytes : List ℕ) → write_bytes_and_wait s (byte ∷ bytes) ≡ read_status ++ (Step.put wDR byte ∷ []) ++ (later_bytes s bytes ++ write_wait s BTF ∷ [])
 unfolding write_bytes_and_wait
-its_bytes s [] h = absurd (omega arith)
-its_bytes s (b ∷ bs) h = let k : length bs ≤ length (b ∷ bs) - 1 = omega arith in rw take_all
+its_bytes s byte bytes = refl
 
-pub returns-in_default : goal.returns-in_default
-returns-in_default c rx =
-    wait_stops (settles (get_unfailing SR1 refl (get_unfailing SR2 refl (put_unfailing wDR _ refl nothing_fails))) (c.write_first-a.ensures _ rx)) _
-    (rewritten (its_bytes _ _ c.requires) here) c.in_default.not-Well
+pub returns-in_err-read_status : goal.returns-in_err-read_status
+returns-in_err-read_status c =
+    wait_stops (settles (get_unfailing SR1 refl (get_unfailing SR2 refl nothing_fails)) c.read_status.ensures) _ (rewritten (its_bytes _ _ _) here) c.in_err-read_status.was c.from_residual.ensures
 
-pub returns-in_default-b : goal.returns-in_default-b
-returns-in_default-b c rx =
-    wait_stops (c.write_later-b.ensures rx) _ (call_step (c.write_first-a.ensures _ rx) _ (rewritten (its_bytes _ _ c.requires) here)
-    c.in-Well.is) c.in_default-b.not-Well
+pub returns-in_err-write : goal.returns-in_err-write
+returns-in_err-write c =
+    let status = call_step c.read_status.ensures _ (rewritten (its_bytes _ _ _) here) c.in_ok-read_status.was in
+    wait_stops (settles (put_unfailing wDR _ refl nothing_fails) (write_does (rw c.from.ensures at c.write.ensures))) _ status c.in_err-write.was c.from_residual-in_err-write.ensures
+
+pub returns-in_err-write_later : goal.returns-in_err-write_later
+returns-in_err-write_later c =
+    let status = call_step c.read_status.ensures _ (rewritten (its_bytes _ _ _) here) c.in_ok-read_status.was in
+    let first = call_step (write_does (rw c.from.ensures at c.write.ensures)) _ status c.in_ok-write.was in
+    wait_stops (waits_at_setup first.same (λ s. later_bytes s c.args.later.now) c.write_later.ensures) _ first c.in_err-write_later.was c.from_residual-in_err-write_later.ensures
 
 pub returns : goal.returns
-returns c rx =
-    waits_last
-    (wait_step (c.write_later-b.ensures rx) _ (call_step (c.write_first-a.ensures _ rx) _ (rewritten (its_bytes _ _ c.requires) here)
-    c.in-Well.is) c.in-Well-b.is)
-    (c.busy_wait_flag.ensures _ _ rx)
+returns c =
+    let status = call_step c.read_status.ensures _ (rewritten (its_bytes _ _ _) here) c.in_ok-read_status.was in
+    let first = call_step (write_does (rw c.from.ensures at c.write.ensures)) _ status c.in_ok-write.was in
+    let later = wait_step (waits_at_setup first.same (λ s. later_bytes s c.args.later.now) c.write_later.ensures) _ first c.in_ok-write_later.was in
+    waits_last later (waits_at_setup later.same (λ s. write_wait s BTF ∷ []) (c.data_wait.ensures Handler.stops))

@@ -1,56 +1,39 @@
+use Prim.Native.Nat.{ℕ, ◌+◌, ◌-◌, ◌<◌, ◌≤◌}
 use native.Mathlib.Omega.{arith}
-use mathlib.Core.Path.{refl, ap}
-use Rattle.registers.specs.declared.Progress.{Progress}
-use Rattle.blocking_write.proofs.Bytes.{byte_at_once, none_done, over_at_once}
+use native.Mathlib.Numerals.{add-one}
+use mathlib.Core.Path.{◌≡◌, sym, ap, ◌∙◌}
+use mathlib.Core.List.{List, ◌∷◌}
+use lib.ListN.{length, length-take, take, drop, get_or}
+use lib.Seq.{drop-cons}
+use Rattle.std.proofs.lemmas.List.{get_or-take}
+use Rattle.registers.specs.declared.Source.{Source}
+use Rattle.registers.proofs.Steps.{rewritten}
+use Rattle.blocking_write.specs.Write.{later_bytes}
+use Rattle.blocking_write.proofs.Bytes.{byte_at_once, room_left}
 use Rattle.blocking_write.proofs.write_ready.Goals as goal
 
-pub loop-i-init : goal.loop-i-init
-loop-i-init c = ((λ s rx. none_done s _ _ _ rx _), refl, omega arith)
+-- the next byte that a loop over the first n of them takes
+next_of : (bs : List ℕ) (n i : ℕ) → i < n → n ≤ length bs → drop i bs ≡ get_or (take n bs) i 0 ∷ drop (i + 1) bs
+next_of bs n i h k = let l : i < length bs = omega arith in rw (get_or-take n bs i 0 h, add-one) (drop-cons bs i 0 l)
 
-pub after_bytes-next-requires : goal.after_bytes-next-requires
-after_bytes-next-requires c =
-    (omega (arith, c.loop-i-test.true, c.bytes_that_fit-count.ensures.1), omega (arith, c.loop-i-test.true, c.bytes_that_fit-count.ensures.2))
-
-pub first_sr1-requires : goal.first_sr1-requires
-first_sr1-requires c =
-    omega (arith, ap (λ (z : Progress). z.used) c.after_bytes-next.ensures, c.loop-i-test.true, c.bytes_that_fit-count.ensures.1)
-
-pub wait_for_flag-requires : goal.wait_for_flag-requires
-wait_for_flag-requires c = refl
-
-pub returns-then-not-wait_for_flag : goal.returns-then-not-wait_for_flag
-returns-then-not-wait_for_flag c =
-    record {
-      of_them = omega (arith, c.bytes_that_fit-count.ensures.0, c.loop-i.invariant.2);
-      used = omega (arith, c.bytes_that_fit-count.ensures.1, c.loop-i.invariant.2);
-      made = omega (arith, c.bytes_that_fit-count.ensures.2, c.loop-i.invariant.2);
-      done = c.loop-i.invariant.0;
-    }
-
-pub bounds-bytes-i : goal.bounds-bytes-i
-bounds-bytes-i c =
-    omega (arith, c.loop-i-test.true, c.bytes_that_fit-count.ensures.0)
-
-pub write_at_once-requires : goal.write_at_once-requires
-write_at_once-requires c =
-    (omega (arith, ap (λ (z : Progress). z.used) c.after_bytes-next.ensures, c.loop-i-test.true, c.bytes_that_fit-count.ensures.1), omega (arith, ap (λ (z : Progress). z.made) c.after_bytes-next.ensures, c.loop-i-test.true, c.bytes_that_fit-count.ensures.2, c.loop-i.invariant.1))
+-- as many as the count says
+whole : (n : ℕ) (bs : List ℕ) → n ≤ length bs → length (take n bs) ≡ n
+whole n bs h = simp length-take (omega arith)
 
 pub loop-i-preserved : goal.loop-i-preserved
 loop-i-preserved c =
-    let i = c.loop-i.invariant in (
-      (λ s rx. rw (c.write_at_once.ensures, c.after_bytes-next.ensures)
-          (byte_at_once s _ c.args.readings.now _ rx c.args.progress c.loop-i.i (omega (arith, c.loop-i-test.true, c.bytes_that_fit-count.ensures.0)) (omega (arith, c.loop-i-test.true, c.bytes_that_fit-count.ensures.1)) (omega (arith, c.loop-i-test.true, c.bytes_that_fit-count.ensures.2, i.1))
-          (over_at_once c.args.readings.now c.args.progress c.loop-i.i c.after_bytes-next.ensures c.first_sr1.ensures c.wait_for_flag.ensures
-          (c.if-not-wait_for_flag.false)) (i.0 s rx))),
-      omega (arith, i.1),
-      omega (arith, c.loop-i-test.true),
+    let e = whole _ c.args.bytes.now c.bytes_that_fit-count.ensures.0 in
+    let h : c.loop-i.i < c.bytes_that_fit-count.result = omega (arith, c.loop-i-test.true, e) in
+    let f : c.bytes_that_fit-count.result - c.loop-i.i - 1 ≡ c.bytes_that_fit-count.result - (c.loop-i.i + 1) = omega arith in
+    let n = ap (later_bytes c.args.bus.now.setup) (next_of c.args.bytes.now _ c.loop-i.i h c.bytes_that_fit-count.ensures.0) in
+    let o = sym (c.wait_for_flag.ensures Source.Data) ∙ c.if-not-wait_for_flag.false in (
+      byte_at_once _ _ (rewritten n c.loop-i.invariant.0) (rw c.from.ensures at c.write_at_once.ensures)
+          (omega (arith, h, c.loop-i.invariant.1.0)) (omega (arith, h, c.loop-i.invariant.1.1)) (rw c.first_sr1.ensures at o),
+      rw f at (room_left c.write_at_once.ensures (c.bytes_that_fit-count.result - c.loop-i.i) (omega (arith, h)) c.loop-i.invariant.1),
     )
 
 pub returns : goal.returns
 returns c =
-    record {
-      of_them = omega (arith, c.bytes_that_fit-count.ensures.0, c.loop-i.invariant.2);
-      used = omega (arith, c.bytes_that_fit-count.ensures.1, c.loop-i.invariant.2);
-      made = omega (arith, c.bytes_that_fit-count.ensures.2, c.loop-i.invariant.2);
-      done = c.loop-i.invariant.0;
-    }
+    let e = whole _ c.args.bytes.now c.bytes_that_fit-count.ensures.0 in
+    let k : c.loop-i.i ≡ c.bytes_that_fit-count.result = omega (arith, c.loop-i-test.false, c.loop-i.auto.i-end, e) in
+    record { of_them = c.bytes_that_fit-count.ensures.0; done = rw k at c.loop-i.invariant.0 }

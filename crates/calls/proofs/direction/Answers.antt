@@ -1,11 +1,9 @@
-use borrow.Author.Tests.{ne_eqb}
-use Rattle.buslist.specs.Meaning.{operation_of}
+use mathlib.Core.Path.{sym, ◌∙◌}
+use Rattle.calls.proofs.CallLaws.{a_write, not_a_write}
 use Rattle.calls.proofs.direction.Goals as goal
 
-pub returns-then-o-eq0 : goal.returns-then-o-eq0
-unfolding operation_of
-returns-then-o-eq0 c l = rw c.if-o-eq0.true
+pub returns-then-is_write : goal.returns-then-is_write
+returns-then-is_write c l = rw (a_write l c.args.o (sym c.is_write.ensures ∙ c.if-is_write.true))
 
 pub returns : goal.returns
-unfolding operation_of
-returns c l = rw (ne_eqb _ _ c.if-o-eq0.false)
+returns c l = rw (not_a_write l c.args.o (sym c.is_write.ensures ∙ c.if-is_write.false))

@@ -1,14 +1,11 @@
 use Rattle.registers.proofs.Steps.{here, ends_well}
 use Rattle.calls.specs.Whole.{end_steps}
-use Rattle.calls.proofs.CallLaws.{polling_call, blocking_call}
-use mathlib.Core.Path.{sym, ◌∙◌}
 use Rattle.calls.proofs.end_call.Goals as goal
 
-pub returns-then-is_polling : goal.returns-then-is_polling
+pub returns-in-Polling : goal.returns-in-Polling
 unfolding end_steps
-returns-then-is_polling c rx = rw (polling_call _ (sym c.is_polling.ensures ∙ c.if-is_polling.true)) (ends_well here)
+returns-in-Polling c = rw (← c.engine.ensures, c.in-Polling.is) (ends_well here)
 
-pub returns : goal.returns
+pub returns-in-Blocking : goal.returns-in-Blocking
 unfolding end_steps
-returns c rx =
-    rw (blocking_call _ (sym c.is_polling.ensures ∙ c.if-is_polling.false)) (c.close_after.ensures rx)
+returns-in-Blocking c = rw (← c.engine.ensures, c.in-Blocking.is) c.close_after.ensures

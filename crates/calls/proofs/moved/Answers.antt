@@ -1,4 +1,3 @@
-use Rattle.calls.proofs.CallLaws.{polling_call, blocking_call}
 use Rattle.calls.specs.Whole.{moved}
 use Rattle.blocking.specs.Blocking.{done_last}
 use Rattle.i2c.specs.Polling.{direction}
@@ -23,18 +22,17 @@ not_passed p (Operation.write (b ∷ bs)) e = refl
 not_passed p (Operation.read zero) e = let z : ◌≡◌ {A = ℕ} 0 1 = cc in absurd (omega arith)
 not_passed p (Operation.read (suc n)) e = refl
 
-pub returns-then-is_polling : goal.returns-then-is_polling
+pub returns-in-Polling : goal.returns-in-Polling
 unfolding moved
-returns-then-is_polling c = rw (polling_call _ (sym c.is_polling.ensures ∙ c.if-is_polling.true)) (c.direction.ensures _)
+returns-in-Polling c = rw (← c.engine.ensures, c.in-Polling.is) (c.direction.ensures _)
 
-pub returns-then-is_empty : goal.returns-then-is_empty
+pub returns-in-Blocking : goal.returns-in-Blocking
 unfolding moved
-returns-then-is_empty c =
-    rw (blocking_call _ (sym c.is_polling.ensures ∙ c.if-is_polling.false))
-    (sym (passed_over c.args.previous (operation_of c.args.list.now c.args.o) (sym c.is_empty.ensures ∙ c.if-is_empty.true)))
+returns-in-Blocking c =
+    rw (← c.engine.ensures, c.in-Blocking.is) (sym (passed_over c.args.previous (operation_of c.args.list.now c.args.o) (sym c.if-is_empty.ensures)))
 
-pub returns : goal.returns
+pub returns-in-Blocking-2 : goal.returns-in-Blocking-2
 unfolding moved
-returns c =
-    rw (blocking_call _ (sym c.is_polling.ensures ∙ c.if-is_polling.false))
-    (c.direction-2.ensures c.args.list.now ∙ sym (not_passed c.args.previous (operation_of c.args.list.now c.args.o) (sym c.is_empty.ensures ∙ c.if-is_empty.false)))
+returns-in-Blocking-2 c =
+    rw (← c.engine.ensures, c.in-Blocking-2.is)
+    (c.direction-in-Blocking-2.ensures c.args.list.now ∙ sym (not_passed c.args.previous (operation_of c.args.list.now c.args.o) (sym c.if-is_empty.ensures)))

@@ -1,14 +1,11 @@
 use Rattle.calls.specs.Whole.{operation_steps}
-use Rattle.calls.proofs.CallLaws.{polling_call, blocking_call, number_of_address}
-use mathlib.Core.Path.{sym, ◌∙◌}
+use Rattle.calls.proofs.CallLaws.{number_of_address}
 use Rattle.calls.proofs.operation.Goals as goal
 
-pub returns-then-is_polling : goal.returns-then-is_polling
+pub returns-in-Polling : goal.returns-in-Polling
 unfolding operation_steps
-returns-then-is_polling c =
-    rw (polling_call _ (sym c.is_polling.ensures ∙ c.if-is_polling.true)) (c.polling_operation.ensures _)
+returns-in-Polling c = rw (← c.engine.ensures, c.in-Polling.is) c.polling_operation.ensures
 
-pub returns : goal.returns
+pub returns-in-Blocking : goal.returns-in-Blocking
 unfolding operation_steps
-returns c =
-    rw (blocking_call _ (sym c.is_polling.ensures ∙ c.if-is_polling.false), number_of_address) c.blocking_operation.ensures
+returns-in-Blocking c = rw (← c.engine.ensures, c.in-Blocking.is, number_of_address) c.blocking_operation.ensures

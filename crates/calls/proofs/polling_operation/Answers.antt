@@ -4,13 +4,13 @@ use mathlib.Core.Bool.{Bool, true, false, not, cond, ◌&&◌, false≢true}
 use mathlib.Core.Path.{◌≡◌, refl, sym, ap, ◌∙◌}
 use mathlib.Core.List.{List, [], ◌∷◌, ◌++◌}
 use lib.Dec.{eqb}
-use borrow.Author.Tests.{eqb-true, not-true, not-false, eq-eqb, ne_eqb}
+use borrow.Author.Tests.{eqb-true, not-true, not-false}
 use Rattle.buslist.specs.declared.Address.{Address}
 use Rattle.buslist.specs.declared.OperationEntry.{OperationEntry}
 use Rattle.buslist.specs.Meaning.{write, read, bytes_of, operation_of}
 use Rattle.registers.specs.declared.BusError.{BusError}
 use Rattle.registers.specs.Machine.{Step}
-use Rattle.registers.proofs.Steps.{here, rewritten, call_step, call_stops, call_last, ends_failed, no_setup, keeps_fewer}
+use Rattle.registers.proofs.Steps.{here, rewritten, call_step, call_stops, call_last, ends_failed}
 use Rattle.i2c.specs.declared.Previous.{Previous}
 use Rattle.i2c.specs.Polling.{turn, transfer, operation_steps}
 use Rattle.prepare.specs.Turn.{turn_to}
@@ -56,28 +56,28 @@ module _ (l : List ℕ) (o : OperationEntry) (early : Bool) (a : Address) (p : P
   turns_write t u = turns t ∙ rw (not-false (eqb o.direction 0) u)
 
 pub returns-then-read-early : goal.returns-then-read-early
-returns-then-read-early c s =
-    rw (← c.early.ensures) (ends_failed (rewritten (fails c.args.list.now c.args.o _ _ _ _ c.if-read-early.true) here))
+returns-then-read-early c =
+    let t = rw c.is_write-read.ensures at c.if-read-early.true in
+    rw (← c.early.ensures) (ends_failed (rewritten (fails c.args.list.now c.args.o _ _ _ _ t) here))
 
-pub returns-in_default : goal.returns-in_default
-returns-in_default c s =
-    rw (← c.early.ensures, ← c.address_of-addr.ensures)
-    (call_stops (c.turn-a.ensures s _) _ (rewritten (turns c.args.list.now c.args.o _ _ _ _ c.if-read-early.false) here) c.in_default.not-Well)
-
-pub read_transfer-requires : goal.read_transfer-requires
-read_transfer-requires c =
-    keeps_fewer (c.turn-a.ensures no_setup []) c.in-Well.is c.requires
+pub returns-in_err-turn : goal.returns-in_err-turn
+returns-in_err-turn c =
+    let t = rw c.is_write-read.ensures at c.if-read-early.false in
+    rw (← c.early.ensures, ← c.from-addr.ensures)
+    (call_stops (rw c.is_write-read.ensures at c.turn.ensures) _ (rewritten (turns c.args.list.now c.args.o _ _ _ _ t) here) c.in_err-turn.was c.from_residual.ensures)
 
 pub returns-then-read : goal.returns-then-read
-returns-then-read c s =
-    rw (← c.early.ensures, ← c.address_of-addr.ensures)
+returns-then-read c =
+    let t = rw c.is_write-read.ensures at c.if-read-early.false in
+    rw (← c.early.ensures, ← c.from-addr.ensures)
     (call_last
-    (call_step (c.turn-a.ensures s _) _ (rewritten (turns_read c.args.list.now c.args.o _ _ _ _ c.if-read-early.false (ap not (ne_eqb _ _ c.if-read.true))) here) c.in-Well.is)
-    (c.read_transfer.ensures s))
+    (call_step (rw c.is_write-read.ensures at c.turn.ensures) _ (rewritten (turns_read c.args.list.now c.args.o _ _ _ _ t (ap not (rw c.is_write-read.ensures at c.if-read.true))) here) c.in_ok-turn.was)
+    c.read_transfer.ensures)
 
 pub returns : goal.returns
-returns c s =
-    rw (← c.early.ensures, ← c.address_of-addr.ensures)
+returns c =
+    let t = rw c.is_write-read.ensures at c.if-read-early.false in
+    rw (← c.early.ensures, ← c.from-addr.ensures)
     (call_last
-    (call_step (c.turn-a.ensures s _) _ (rewritten (turns_write c.args.list.now c.args.o _ _ _ _ c.if-read-early.false (ap not (eq-eqb _ _ c.if-read.false))) here) c.in-Well.is)
-    (rw (← c.bytes_of.ensures) (c.write_transfer.ensures s _)))
+    (call_step (rw c.is_write-read.ensures at c.turn.ensures) _ (rewritten (turns_write c.args.list.now c.args.o _ _ _ _ t (ap not (rw c.is_write-read.ensures at c.if-read.false))) here) c.in_ok-turn.was)
+    (rw (← c.bytes_of.ensures) c.write_transfer.ensures))

@@ -1,11 +1,11 @@
-use mathlib.Core.List.{[]}
+use mathlib.Core.List.{[], ◌∷◌}
 use Rattle.registers.specs.Machine.{Step}
-use Rattle.registers.specs.State.{at, room}
-use Rattle.checks.proofs.Waits.{Waiting}
+use Rattle.registers.specs.State.{room}
+use Rattle.registers.specs.Contract.{state, Reaches}
 use Rattle.checks.proofs.check_master.Given as goal
 
-abbrev pub invariant-loop-next : goal.invariant-loop-next
-invariant-loop-next l = Waiting Step.check_master l.readings l.initial.log l.initial.progress l.log l.progress
+abbrev pub invariant-loop-bus : goal.invariant-loop-bus
+invariant-loop-bus l = Reaches (Step.check_master ∷ []) l.initial.bus (Step.check_master ∷ []) l.bus
 
-abbrev pub decreases-loop-next : goal.decreases-loop-next
-decreases-loop-next l = room (at l.readings l.log [] l.progress)
+abbrev pub decreases-loop-bus : goal.decreases-loop-bus
+decreases-loop-bus l = room (state l.bus)

@@ -1,11 +1,11 @@
-use mathlib.Core.List.{[]}
+use mathlib.Core.List.{[], ◌∷◌}
 use Rattle.registers.specs.Machine.{Step}
-use Rattle.registers.specs.State.{at, room}
-use Rattle.checks.proofs.Waits.{Waiting}
+use Rattle.registers.specs.State.{room}
+use Rattle.registers.specs.Contract.{state, Reaches}
 use Rattle.checks.proofs.until_flag.Given as goal
 
 abbrev pub invariant-loop-sr1 : goal.invariant-loop-sr1
-invariant-loop-sr1 l = Waiting (Step.flag l.flag) l.readings l.initial.log l.initial.progress l.log l.progress
+invariant-loop-sr1 l = Reaches (Step.flag l.flag ∷ []) l.initial.bus (Step.flag l.flag ∷ []) l.bus
 
 abbrev pub decreases-loop-sr1 : goal.decreases-loop-sr1
-decreases-loop-sr1 l = room (at l.readings l.log [] l.progress)
+decreases-loop-sr1 l = room (state l.bus)

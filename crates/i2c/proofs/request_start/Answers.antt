@@ -1,10 +1,8 @@
-use mathlib.Core.Path.{refl}
-use Rattle.registers.proofs.Steps.{here, write_step, write_stops, call_last}
+use Rattle.registers.proofs.Steps.{call_last, call_step, call_stops, here, write_does}
 use Rattle.i2c.proofs.request_start.Goals as goal
 
-pub returns-in_default : goal.returns-in_default
-returns-in_default c s rx = write_stops here (c.write-a.ensures _ rx) refl c.in_default.not-Well
+pub returns-in_err-write : goal.returns-in_err-write
+returns-in_err-write c = call_stops (write_does c.write.ensures) _ here c.in_err-write.was c.from_residual.ensures
 
 pub returns : goal.returns
-returns c s rx =
-    call_last (write_step here (c.write-a.ensures _ rx) refl c.in-Well.is) (c.modify_cr1.ensures s rx)
+returns c = call_last (call_step (write_does c.write.ensures) _ here c.in_ok-write.was) c.modify_cr1.ensures

@@ -1,15 +1,12 @@
-use mathlib.Core.Path.{refl}
-use Rattle.registers.proofs.Steps.{here, write_step, write_stops, call_last}
+use Rattle.registers.proofs.Steps.{at_setup, call_last, call_step, call_stops, here, same_then, write_does}
+use Rattle.registers.specs.Machine.{bring_up}
 use Rattle.i2c.proofs.reset.Goals as goal
 
-pub returns-in_default : goal.returns-in_default
-returns-in_default c rx = write_stops here (c.write-a.ensures _ rx) refl c.in_default.not-Well
+pub returns-in_err-write : goal.returns-in_err-write
+returns-in_err-write c = call_stops (write_does c.write.ensures) _ here c.in_err-write.was c.from_residual.ensures
 
-pub returns-in_default-b : goal.returns-in_default-b
-returns-in_default-b c rx =
-    write_stops (write_step here (c.write-a.ensures _ rx) refl c.in-Well.is) (c.write-b.ensures _ rx) refl c.in_default-b.not-Well
+pub returns-in_err-write-2 : goal.returns-in_err-write-2
+returns-in_err-write-2 c = call_stops (write_does c.write-2.ensures) _ (call_step (write_does c.write.ensures) _ here c.in_ok-write.was) c.in_err-write-2.was c.from_residual-in_err-write-2.ensures
 
 pub returns : goal.returns
-returns c rx =
-    call_last (write_step (write_step here (c.write-a.ensures _ rx) refl c.in-Well.is) (c.write-b.ensures _ rx) refl c.in-Well-b.is)
-    (c.init.ensures rx)
+returns c = call_last (call_step (write_does c.write-2.ensures) _ (call_step (write_does c.write.ensures) _ here c.in_ok-write.was) c.in_ok-write-2.was) (at_setup (same_then c.write.ensures.same c.write-2.ensures.same) bring_up c.init.ensures)

@@ -1,9 +1,8 @@
-use Rattle.registers.proofs.Steps.{here, call_step, call_stops, call_last}
+use Rattle.registers.proofs.Steps.{call_last, call_step, call_stops, here}
 use Rattle.prepare.proofs.prepare_write.Goals as goal
 
-pub returns-in_default : goal.returns-in_default
-returns-in_default c s rx = call_stops (c.request_write-a.ensures s rx) _ here c.in_default.not-Well
+pub returns-in_err-request_write : goal.returns-in_err-request_write
+returns-in_err-request_write c = call_stops c.request_write.ensures _ here c.in_err-request_write.was c.from_residual.ensures
 
 pub returns : goal.returns
-returns c s rx =
-    call_last (call_step (c.request_write-a.ensures s rx) _ here c.in-Well.is) (c.address_write.ensures s rx)
+returns c = call_last (call_step c.request_write.ensures _ here c.in_ok-request_write.was) c.address_write.ensures

@@ -1,9 +1,8 @@
-use Rattle.registers.proofs.Steps.{here, call_step, call_stops, call_last}
+use Rattle.registers.proofs.Steps.{call_last, call_step, call_stops, here}
 use Rattle.prepare.proofs.repeat_start.Goals as goal
 
-pub returns-in_default : goal.returns-in_default
-returns-in_default c s rx = call_stops (c.modify_cr1-a.ensures s rx) _ here c.in_default.not-Well
+pub returns-in_err-modify_cr1 : goal.returns-in_err-modify_cr1
+returns-in_err-modify_cr1 c = call_stops c.modify_cr1.ensures _ here c.in_err-modify_cr1.was c.from_residual.ensures
 
 pub returns : goal.returns
-returns c s rx =
-    call_last (call_step (c.modify_cr1-a.ensures s rx) _ here c.in-Well.is) (c.until_flag.ensures s rx)
+returns c = call_last (call_step c.modify_cr1.ensures _ here c.in_ok-modify_cr1.was) c.until_flag.ensures

@@ -1,23 +1,14 @@
-use Rattle.registers.proofs.Steps.{here, call_step, call_stops, call_last}
+use Rattle.registers.proofs.Steps.{call_last, call_step, call_stops, here}
 use Rattle.prepare.proofs.start_read.Goals as goal
 
-pub returns-in_default : goal.returns-in_default
-returns-in_default c s rx = call_stops (c.until_stop_clear-a.ensures s rx) _ here c.in_default.not-Well
+pub returns-in_err-until_stop_clear : goal.returns-in_err-until_stop_clear
+returns-in_err-until_stop_clear c = call_stops c.until_stop_clear.ensures _ here c.in_err-until_stop_clear.was c.from_residual.ensures
 
-pub returns-in_default-b : goal.returns-in_default-b
-returns-in_default-b c s rx =
-    call_stops (c.request_start-b.ensures s rx) _ (call_step (c.until_stop_clear-a.ensures s rx) _ here c.in-Well.is) c.in_default-b.not-Well
+pub returns-in_err-request_start : goal.returns-in_err-request_start
+returns-in_err-request_start c = call_stops c.request_start.ensures _ (call_step c.until_stop_clear.ensures _ here c.in_ok-until_stop_clear.was) c.in_err-request_start.was c.from_residual-in_err-request_start.ensures
 
-pub returns-in_default-c : goal.returns-in_default-c
-returns-in_default-c c s rx =
-    call_stops (c.until_flag-c.ensures s rx) _
-    (call_step (c.request_start-b.ensures s rx) _ (call_step (c.until_stop_clear-a.ensures s rx) _ here c.in-Well.is) c.in-Well-b.is)
-    c.in_default-c.not-Well
+pub returns-in_err-until_flag : goal.returns-in_err-until_flag
+returns-in_err-until_flag c = call_stops c.until_flag.ensures _ (call_step c.request_start.ensures _ (call_step c.until_stop_clear.ensures _ here c.in_ok-until_stop_clear.was) c.in_ok-request_start.was) c.in_err-until_flag.was c.from_residual-in_err-until_flag.ensures
 
 pub returns : goal.returns
-returns c s rx =
-    call_last
-    (call_step (c.until_flag-c.ensures s rx) _
-    (call_step (c.request_start-b.ensures s rx) _ (call_step (c.until_stop_clear-a.ensures s rx) _ here c.in-Well.is) c.in-Well-b.is)
-    c.in-Well-c.is)
-    (c.until_master.ensures s rx)
+returns c = call_last (call_step c.until_flag.ensures _ (call_step c.request_start.ensures _ (call_step c.until_stop_clear.ensures _ here c.in_ok-until_stop_clear.was) c.in_ok-request_start.was) c.in_ok-until_flag.was) c.until_master.ensures

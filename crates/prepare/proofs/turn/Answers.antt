@@ -22,12 +22,13 @@ in_turn (Address.Seven a) Previous.Read false e f = rw (e, f)
 in_turn (Address.Ten a) Previous.Read false e f = rw (e, f)
 in_turn a Previous.Read true e f = rw (e, f)
 
-pub returns-in_default : goal.returns-in_default
-returns-in_default c s rx =
-    call_stops (c.turn_write-a.ensures s rx) _ (rewritten (in_turn c.args.addr c.args.previous c.args.read c.sends_write-written.ensures refl) here) c.in_default.not-Well
+pub returns-in_err-turn_write : goal.returns-in_err-turn_write
+returns-in_err-turn_write c =
+    call_stops c.turn_write.ensures _ (rewritten (in_turn c.args.addr c.args.previous c.args.read c.sends_write-written.ensures refl) here) c.in_err-turn_write.was
+    c.from_residual.ensures
 
 pub returns : goal.returns
-returns c s rx =
+returns c =
     call_last
-    (call_step (c.turn_write-a.ensures s rx) _ (rewritten (in_turn c.args.addr c.args.previous c.args.read c.sends_write-written.ensures c.sends_read.ensures) here) c.in-Well.is)
-    (c.turn_read.ensures s rx)
+    (call_step c.turn_write.ensures _ (rewritten (in_turn c.args.addr c.args.previous c.args.read c.sends_write-written.ensures c.sends_read.ensures) here) c.in_ok-turn_write.was)
+    c.turn_read.ensures

@@ -1,54 +1,24 @@
-use Rattle.std.proofs.Common.{[], sym, refl, ◌∙◌, arith}
-use Rattle.registers.proofs.Steps.{here, rewritten, read_step, read_less, waits_well}
-use Rattle.timed.proofs.Waiting.{next-over, next_waits, next_late, polled_read, poll_step, wait_none, wait_failed, ends_handled}
+use Rattle.std.proofs.Common.{sym, refl, ◌∙◌}
+use Rattle.registers.proofs.Steps.{here, read_step, waits_well}
+use Rattle.timed.proofs.Waiting.{next_timed, to_end, poll_step, wait_unread, waits_by_parts}
 use Rattle.timed.proofs.busy_wait.Goals as goal
 
-pub loop-awaited-init : goal.loop-awaited-init
-loop-awaited-init c = ((λ s h rx. here), refl)
+pub returns-in_err-start : goal.returns-in_err-start
+returns-in_err-start c h = wait_unread here c.read.ensures refl c.in_err-start.was c.from_residual.ensures
 
-pub wait_over-requires : goal.wait_over-requires
-wait_over-requires c = c.requires
+pub returns-in_err-word : goal.returns-in_err-word
+returns-in_err-word c h =
+    let first = read_step here c.read.ensures refl refl c.in_ok-start.was (next_timed _ _ _ h _) in
+    wait_unread first c.read-2.ensures (rw c.polled_register.ensures) c.in_err-word.was c.from_residual-in_err-word.ensures
 
-pub returns-in-Error : goal.returns-in-Error
-returns-in-Error c s h rx =
-    rw c.failed_poll.ensures (wait_failed _ _ _ _ (c.loop-awaited.invariant.0 s h rx) (sym c.poll_error-flagged.ensures ∙ c.in-Error.is)
-    (c.clear_flag.ensures _ rx))
-
-pub returns-in_default-c : goal.returns-in_default-c
-returns-in_default-c c s h rx =
-    let late = rewritten (next_waits s _ _ h _ _ (sym c.wait_over.ensures ∙ c.loop-awaited-test.true) (sym c.poll_error-flagged.ensures ∙ c.in_default.is)) (c.loop-awaited.invariant.0 s h rx) in
-    rw c.outcome_of.ensures (wait_none late (c.read-c.ensures rx) refl refl c.in_default-c.is)
-
-pub returns-then-timed_out : goal.returns-then-timed_out
-returns-then-timed_out c s h rx =
-    let late = rewritten (next_waits s _ _ h _ _ (sym c.wait_over.ensures ∙ c.loop-awaited-test.true) (sym c.poll_error-flagged.ensures ∙ c.in_default.is)) (c.loop-awaited.invariant.0 s h rx) in
-    ends_handled (read_step late (c.read-c.ensures rx) refl refl refl c.in-Word.is (next_late s _ _ h _ _ (sym c.timed_out.ensures ∙ c.if-timed_out.true)))
-
-pub read-d-requires : goal.read-d-requires
-read-d-requires c =
-    rw c.polled_register.ensures (polled_read c.args.awaited)
-
-pub returns-in_default-d : goal.returns-in_default-d
-returns-in_default-d c s h rx =
-    let late = rewritten (next_waits s _ _ h _ _ (sym c.wait_over.ensures ∙ c.loop-awaited-test.true) (sym c.poll_error-flagged.ensures ∙ c.in_default.is)) (c.loop-awaited.invariant.0 s h rx) in
-    let poll = read_step late (c.read-c.ensures rx) refl refl refl c.in-Word.is (next_late s _ _ h _ _ (sym c.timed_out.ensures ∙ c.if-timed_out.false)) in
-    rw c.outcome_of-in_default-d.ensures (wait_none poll (rw c.polled_register.ensures at (c.read-d.ensures rx)) refl (polled_read c.args.awaited)
-    c.in_default-d.is)
-
-pub loop-awaited-smaller : goal.loop-awaited-smaller
-loop-awaited-smaller c =
-    let g = read_less (c.read-c.ensures []) c.in-Word.is in
-    let k = read_less (c.read-d.ensures []) c.in-Word-d.is in
-    omega arith
-
-pub loop-awaited-preserved : goal.loop-awaited-preserved
-loop-awaited-preserved c = (
-  (λ s h rx.
-      let late = rewritten (next_waits s _ _ h _ _ (sym c.wait_over.ensures ∙ c.loop-awaited-test.true) (sym c.poll_error-flagged.ensures ∙ c.in_default.is)) (c.loop-awaited.invariant.0 s h rx) in
-      let poll = read_step late (c.read-c.ensures rx) refl refl refl c.in-Word.is (next_late s _ _ h _ _ (sym c.timed_out.ensures ∙ c.if-timed_out.false)) in
-      poll_step poll (rw c.polled_register.ensures at (c.read-d.ensures rx)) c.in-Word-d.is),
-  omega arith,
-)
+pub returns-then-wait_over : goal.returns-then-wait_over
+returns-then-wait_over c h =
+    let first = read_step here c.read.ensures refl refl c.in_ok-start.was (next_timed _ _ _ h _) in
+    let polled = poll_step first c.polled_register.ensures c.read-2.ensures c.in_ok-word.was in
+    waits_well (to_end _ _ h _ _ polled (sym c.wait_over.ensures ∙ c.if-wait_over.true))
 
 pub returns : goal.returns
-returns c s h rx = waits_well (rewritten (next-over s _ _ h _ _ (sym c.wait_over.ensures ∙ c.loop-awaited-test.false)) (c.loop-awaited.invariant.0 s h rx))
+returns c h =
+    let first = read_step here c.read.ensures refl refl c.in_ok-start.was (next_timed _ _ _ h _) in
+    let polled = poll_step first c.polled_register.ensures c.read-2.ensures c.in_ok-word.was in
+    waits_by_parts polled (record { setup = refl; readings = refl; log = refl; rx = refl }) c.busy_wait_on-waited.ensures.waits

@@ -1,14 +1,8 @@
-use mathlib.Core.List.{[]}
-use Rattle.registers.proofs.Steps.{here, call_step, call_stops, call_last, no_setup, keeps_fewer}
+use Rattle.registers.proofs.Steps.{call_last, call_step, call_stops, here}
 use Rattle.transfer.proofs.recv_byte.Goals as goal
 
-pub returns-in_default : goal.returns-in_default
-returns-in_default c s = call_stops (c.check_twice-a.ensures s _) _ here c.in_default.not-Well
-
-pub read_data-requires : goal.read_data-requires
-read_data-requires c =
-    keeps_fewer (c.check_twice-a.ensures no_setup []) c.in-Well.is c.requires
+pub returns-in_err-check_twice : goal.returns-in_err-check_twice
+returns-in_err-check_twice c = call_stops c.check_twice.ensures _ here c.in_err-check_twice.was c.from_residual.ensures
 
 pub returns : goal.returns
-returns c s =
-    call_last (call_step (c.check_twice-a.ensures s _) _ here c.in-Well.is) (c.read_data.ensures s)
+returns c = call_last (call_step c.check_twice.ensures _ here c.in_ok-check_twice.was) c.read_data.ensures

@@ -1,7 +1,6 @@
 use Prim.Native.Nat.{ℕ, ◌+◌, ◌<◌, ◌≤◌}
-use native.Mathlib.Omega.{arith}
 use native.Mathlib.Numerals.{add-one}
-use mathlib.Core.Path.{◌≡◌, refl}
+use mathlib.Core.Path.{◌≡◌}
 use mathlib.Core.List.{List, [], ◌++◌}
 use lib.ListN.{length, drop, get_or, drop_of_length-le}
 use lib.Seq.{drop-cons}
@@ -18,20 +17,15 @@ no_byte : (bs : List ℕ) (i : ℕ) → length bs ≤ i → write_bytes (drop i 
 unfolding write_bytes
 no_byte bs i h = rw (drop_of_length-le bs h)
 
-pub loop-i-init : goal.loop-i-init
-loop-i-init c = ((λ s rx. here), refl, omega arith)
+pub loop-byte-init : goal.loop-byte-init
+loop-byte-init c = here
 
-pub returns-in_default : goal.returns-in_default
-returns-in_default c s rx =
-    call_stops (c.send_byte-o.ensures s rx) _ (rewritten (next-byte _ _ c.loop-i-test.true) (c.loop-i.invariant.0 s rx)) c.in_default.not-Well
+pub returns-in_err-send_byte : goal.returns-in_err-send_byte
+returns-in_err-send_byte c =
+    call_stops c.send_byte.ensures _ (rewritten (next-byte _ _ c.loop-byte-test.true) c.loop-byte.invariant) c.in_err-send_byte.was c.from_residual.ensures
 
-pub loop-i-preserved : goal.loop-i-preserved
-loop-i-preserved c = (
-  (λ s rx. call_step (c.send_byte-o.ensures s rx) _ (rewritten (next-byte _ _ c.loop-i-test.true) (c.loop-i.invariant.0 s rx))
-      c.in-Well.is),
-  omega arith,
-  omega arith,
-)
+pub loop-byte-preserved : goal.loop-byte-preserved
+loop-byte-preserved c = call_step c.send_byte.ensures _ (rewritten (next-byte _ _ c.loop-byte-test.true) c.loop-byte.invariant) c.in_ok-send_byte.was
 
 pub returns : goal.returns
-returns c s rx = ends_well (rewritten (no_byte _ _ c.loop-i-test.false) (c.loop-i.invariant.0 s rx))
+returns c = ends_well (rewritten (no_byte _ _ c.loop-byte-test.false) c.loop-byte.invariant)

@@ -1,9 +1,0 @@
-use Rattle.registers.proofs.Steps.{here, call_step, call_stops, call_last, waits_end}
-use Rattle.blocking.proofs.close.Goals as goal
-
-pub returns-in_default : goal.returns-in_default
-returns-in_default c rx = call_stops (c.send_stop-a.ensures _ _) _ here c.in_default.not-Well
-
-pub returns : goal.returns
-returns c rx =
-    call_last (call_step (c.send_stop-a.ensures _ _) _ here c.in-Well.is) (waits_end (c.busy_wait_stop.ensures _ _ _))

@@ -1,6 +1,0 @@
-use Rattle.buslist.specs.Table.{settings_of}
-use Rattle.buslist.proofs.read_settings.Goals as goal
-
-pub returns : goal.returns
-unfolding settings_of
-returns c = cc
