@@ -15,7 +15,7 @@ use Rattle.buslist.specs.Combined.{dropped, gather, joined, read_then_write}
 use Rattle.buslist.specs.Encode.{half_bytes, word_bytes, header, call_entries, call_bytes, operation_entries, operation_bytes, encode}
 use Rattle.registers.specs.declared.Source.{Source}
 use Rattle.registers.specs.declared.BusError.{BusError}
-use Rattle.std.specs.Prelude.{Option, Some, None}
+use Rattle.std.specs.Prelude.{Some}
 use Rattle.registers.specs.declared.Awaited.{Awaited}
 use Rattle.registers.specs.Word.{has, with_bit, without_bit}
 use Rattle.registers.specs.Access.{cut, clear_word, record_of, reads, received_of, number}

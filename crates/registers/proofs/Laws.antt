@@ -2,12 +2,12 @@
 -- Assumes nothing.
 use Prim.Native.Nat.{ℕ, zero, suc, ◌+◌, ◌-◌, ◌%◌, ◌^◌, ◌≤◌, ◌<◌}
 use native.Mathlib.Omega.{arith}
-use mathlib.Core.Bool.{Bool, true, false, cond}
-use mathlib.Core.Path.{◌≡◌, refl, ap, subst, ◌∙◌}
+use mathlib.Core.Bool.{true, false}
+use mathlib.Core.Path.{◌≡◌, refl, ap, ◌∙◌}
 use mathlib.Core.List.{List, [], ◌∷◌, ◌++◌}
 use lib.ListN.{length, get_or, length-set, drop_of_length-le}
 use lib.Seq.{drop-drop, drop-cons}
-use borrow.Author.Tests.{ne_eqb, eqb-true, leb-false}
+use borrow.Author.Tests.{ne_eqb, leb-false}
 use Rattle.units.specs.declared.Setup.{Setup}
 use Rattle.registers.specs.declared.Progress.{Progress}
 use Rattle.registers.specs.declared.ReadCode.{ReadCode}
@@ -15,7 +15,7 @@ use Rattle.registers.specs.declared.WriteCode.{WriteCode}
 use Rattle.registers.specs.declared.BusError.{BusError}
 use Rattle.registers.specs.declared.Cut.{Cut}
 use Rattle.registers.specs.declared.Entry.{Entry}
-use Rattle.registers.specs.Access.{is_read, is_data, cut, CYC, DR, store, entries_in, Ending, Access}
+use Rattle.registers.specs.Access.{is_read, is_data, cut, CYC, DR, store, entries_in, Access}
 use Rattle.registers.specs.Machine.{Step, Act, access, next, exec, exec_on, exec_full, perform, no_room}
 use Rattle.registers.specs.Contract.{read_code, write_code}
 use Rattle.registers.specs.State.{State, After, Took, at, going, word, then, taking, entry, recorded, received, replay, room, left, after, resume, read_one, read, write_one, write}
@@ -199,33 +199,3 @@ cut_register ReadCode.Sr2 w h = refl
 cut_register ReadCode.Cr1 w h = refl
 cut_register ReadCode.Dr w h = refl
 cut_register ReadCode.Cyc w h = absurd (h refl)
-
--- the bytes received are at most the readings used
-abbrev pub Fewer : State → Type 0
-Fewer (at rs lg rx b) = b.got ≤ b.used
-
-fewer_replayed : (e : Entry) (st : State) → Fewer st → Fewer (received e (recorded e st))
-unfolding recorded received
-fewer_replayed e (at rs lg rx b) h = go (is_data e.code) (is_read e.code) refl refl
-  where
-    go : (t u : Bool) → is_data e.code ≡ t → is_read e.code ≡ u → cond t (b.got + 1) b.got ≤ cond u (b.used + 1) b.used
-    go true true p q = omega arith
-    go true false p q = absurd (omega (arith, eqb-true e.code DR p, leb-false e.code CYC q))
-    go false true p q = omega arith
-    go false false p q = omega arith
-
-replay_fewer : (es : List Entry) (st : State) → Fewer st → Fewer (replay es st)
-unfolding replay
-replay_fewer [] st h = h
-replay_fewer (e ∷ es) st h = replay_fewer es (received e (recorded e st)) (fewer_replayed e st h)
-
-pub resume_fewer : (s : Setup) (q : List Step) (st st' : State) → resume s q st ≡ going st' → Fewer st → Fewer st'
-unfolding resume after
-resume_fewer s q st st' e h = go (exec s (room st) q (left st)).ending e
-  where
-    go : (n : Ending) → after n (replay (exec s (room st) q (left st)).log st) ≡ going st' → Fewer st'
-    go Ending.well e =
-        let f : replay (exec s (room st) q (left st)).log st ≡ st' = cc in
-        subst Fewer f (replay_fewer (exec s (room st) q (left st)).log st h)
-    go (Ending.failed a) e = let z : ◌≡◌ {A = ℕ} 0 1 = cc in absurd (omega arith)
-    go (Ending.cut_short c) e = let z : ◌≡◌ {A = ℕ} 0 1 = cc in absurd (omega arith)
