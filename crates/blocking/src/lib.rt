@@ -67,7 +67,7 @@ fn one_ready(bus: &mut Bus) -> Result<(), Stop>
 }
 
 // A read of one byte, once the address is sent.
-#[inline(always)]
+// No mark to inline it: its caller would lose its own (docs/DECISIONS.md, "Marks to inline").
 fn read_one(bus: &mut Bus) -> Result<(), Stop>
     ensures { Does (read_one bus.old.setup) bus.old bus.new result }
 {
@@ -168,7 +168,6 @@ fn more_ready(bus: &mut Bus) -> Result<(), Stop>
 }
 
 // A read of three bytes or more, once the address is sent. `count` leaves out the last three.
-#[inline(always)]
 fn read_more(bus: &mut Bus, count: usize) -> Result<(), Stop>
     ensures { Does (read_more bus.old.setup count) bus.old bus.new result }
 {
@@ -191,7 +190,6 @@ fn read_arm(bus: &mut Bus, count: usize) -> Result<(), Stop>
 }
 
 // A read; an empty one does nothing.
-#[inline(always)]
 pub fn read(bus: &mut Bus, addr: u16, count: usize) -> Result<(), Stop>
     ensures { Does (read_steps bus.old.setup addr count) bus.old bus.new result }
 {

@@ -113,7 +113,7 @@ fn write_later(bus: &mut Bus, bytes: &[u8]) -> Result<(), Stop>
 }
 
 // The bytes of a write. The error of a wait is left to the caller.
-#[inline(always)]
+// No mark to inline it: its caller would lose its own (docs/DECISIONS.md, "Marks to inline").
 fn write_bytes_and_wait(bus: &mut Bus, first: u8, later: &[u8]) -> Result<(), Stop>
     ensures { Waits Handler.stops (write_bytes_and_wait bus.old.setup (first ∷ later.now)) bus.old bus.new result }
 {

@@ -98,6 +98,8 @@ impl<'a> BusList<'a> {
         self.word_at(16)
     }
 
+    // A run asks twice, for the causes and for its setup. Inlined, neither is a call; the causes read what they use.
+    #[inline(always)]
     pub fn settings(&self) -> Settings
         ensures { result ≡ settings_of self.now }
     {

@@ -32,7 +32,6 @@ fn early(kind: u8) -> bool
 }
 
 // One operation of a polling call.
-#[inline(always)]
 fn polling_operation(
     bus: &mut Bus,
     list: &BusList<'_>,

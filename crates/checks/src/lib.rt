@@ -132,7 +132,7 @@ pub fn check_twice(bus: &mut Bus, flag: u32, source: Source) -> Result<(), Stop>
 }
 
 // Plain SR1 reads until this flag is set.
-#[inline(always)]
+// No mark to inline it: the compiler does so by itself, and better (docs/DECISIONS.md, "Marks to inline").
 pub fn until_flag(bus: &mut Bus, flag: u32) -> Result<(), Stop>
     requires { 0 < flag }
     ensures { Does (Step.flag flag ∷ []) bus.old bus.new result }

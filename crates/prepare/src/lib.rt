@@ -172,7 +172,6 @@ fn turn_read(bus: &mut Bus, addr: Address, sends: bool, again: bool) -> Result<(
 }
 
 // Prepares for an operation of a call, after the operation `previous`.
-#[inline(always)]
 pub fn turn(bus: &mut Bus, addr: Address, previous: Previous, read: bool) -> Result<(), Stop>
     ensures { Does (turn_to addr previous read) bus.old bus.new result }
 {
