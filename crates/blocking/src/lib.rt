@@ -1,15 +1,15 @@
 // The rest of the blocking I2C master, named and ordered as the Rust's src/i2c/blocking.rs: the close of a write, and the read.
 #![tactic(auto)]
 
-ghost use Rattle.std.specs.Prelude.{◌≡◌, ◌<◌, true, [], ◌∷◌};
-ghost use Rattle.registers.specs.Contract.{Does};
+ghost use Rattle.std.specs.Prelude.{◌≡◌, ◌<◌, ◌≤◌, ◌-◌, true, [], ◌∷◌};
+ghost use Rattle.registers.specs.Contract.{Does, Reaches};
 ghost use Rattle.timed.specs.Poll.{waited_flag};
 ghost use Rattle.blocking.specs.Blocking.{stop_wait, read_wait, one_ready, more_ready, third_last, second_last, close, receive, finish_read, read_one, two_ready, two_bytes, two_end, read_two, receive_bytes, last_three, read_more, read_arm, read_steps, close_after};
 
 use blocking_write::{data_wait, read_status, send_addr_and_wait, send_start_and_wait};
 use i2c::{Previous, send_stop};
-use registers::{Awaited, Bits, Bus, Stop};
-use timed::busy_wait;
+use registers::{Awaited, Bits, Bus, ReadCode, Stop};
+use timed::{busy_wait, wait_for_flag};
 
 // The wait until STOP is sent.
 #[inline(always)]
@@ -117,12 +117,31 @@ fn read_two(bus: &mut Bus) -> Result<(), Stop>
     two_end(bus)
 }
 
+// Receives the first bytes that fit and whose waits are over at once. The answer is how many. All after them go by
+// `receive`: at most one byte of a read is looked at ahead in vain.
+#[inline(always)]
+fn receive_ready(bus: &mut Bus, count: usize) -> usize
+    ensures { (result ≤ count) × Reaches (receive_bytes bus.old.setup count) bus.old (receive_bytes bus.old.setup (count - result)) bus.new }
+{
+    let fit = bus.bytes_that_fit(count);
+    for i in 0..fit {
+        if !wait_for_flag(bus.sr1_after(1), registers::RXNE) {
+            return i;
+        }
+        bus.record_read(ReadCode::Cyc);
+        bus.record_read(ReadCode::Sr1);
+        bus.record_data();
+    }
+    fit
+}
+
 // So many bytes of a read, one after the other.
 #[inline(always)]
 fn receive_bytes(bus: &mut Bus, count: usize) -> Result<(), Stop>
     ensures { Does (receive_bytes bus.old.setup count) bus.old bus.new result }
 {
-    for _ in 0..count {
+    let ready = receive_ready(bus, count);
+    for _ in ready..count {
         receive(bus)?;
     }
     Ok(())

@@ -1,14 +1,13 @@
 // The blocking I2C master up to its write, named and ordered as the Rust's src/i2c/blocking.rs: start, address and write.
 #![tactic(auto)]
 
-ghost use Rattle.std.specs.Prelude.{◌≡◌, true, List, [], ◌∷◌};
+ghost use Rattle.std.specs.Prelude.{◌≡◌, ◌≤◌, true, List, [], ◌∷◌, length, drop};
 ghost use Rattle.registers.specs.declared.Awaited.{Awaited};
 ghost use Rattle.registers.specs.declared.Source.{Source};
 ghost use Rattle.registers.specs.declared.access.Bus.{Bus};
 ghost use Rattle.registers.specs.Machine.{Step, Handler};
-ghost use Rattle.registers.specs.Contract.{Does, Waits};
+ghost use Rattle.registers.specs.Contract.{Does, Waits, Reaches};
 ghost use Rattle.timed.specs.Poll.{waited_flag};
-ghost use Rattle.blocking_write.specs.Ready.{WritesFirst};
 ghost use Rattle.blocking_write.specs.Write.{data_limit, send_start_and_wait, send_addr_and_wait, later_bytes, read_status, write_bytes_and_wait, write_without_stop};
 
 use i2c::{reset, send_addr, send_start, send_stop};
@@ -83,14 +82,16 @@ pub fn data_wait(bus: &mut Bus, flag: u32) -> Result<(), Stop>
 // Writes the first bytes that fit and whose waits are over at once. The answer is how many.
 #[inline(always)]
 fn write_ready(bus: &mut Bus, bytes: &[u8]) -> usize
-    ensures { WritesFirst bytes.now bus.old bus.new result }
+    ensures { (result ≤ length bytes.now) × Reaches (later_bytes bus.old.setup bytes.now) bus.old (later_bytes bus.old.setup (drop result bytes.now)) bus.new }
 {
     let count = bus.bytes_that_fit(bytes.len());
     for (i, byte) in bytes[..count].iter().enumerate() {
-        if !wait_for_flag(bus.first_sr1(), registers::TXE) {
+        if !wait_for_flag(bus.sr1_after(1), registers::TXE) {
             return i;
         }
-        bus.write_at_once(u32::from(*byte));
+        bus.record_read(ReadCode::Cyc);
+        bus.record_read(ReadCode::Sr1);
+        bus.record_write(WriteCode::Dr, u32::from(*byte));
     }
     count
 }

@@ -56,7 +56,7 @@ fn polling_operation(
 }
 
 // One operation of a blocking call.
-#[inline(always)]
+// No mark to inline it: its caller would lose its own (docs/DECISIONS.md, "Marks to inline").
 fn blocking_operation(
     bus: &mut Bus,
     list: &BusList<'_>,

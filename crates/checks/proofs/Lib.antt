@@ -1,3 +1,4 @@
+pub mod AtOnce
 pub mod Waits
 pub mod Flags
 pub mod Checks

@@ -36,7 +36,7 @@ fn first_error(word: u32, source: Source) -> Option<BusError>
 const ERRORS: u32 = 0x5f00;
 
 // Whether an SR1 word has no error flag: one test for all of them.
-fn no_error_flag(sr1: u32) -> bool
+pub fn no_error_flag(sr1: u32) -> bool
     ensures { result ≡ no_error_flag sr1 }
 {
     sr1 & ERRORS == 0
@@ -132,7 +132,7 @@ pub fn check_twice(bus: &mut Bus, flag: u32, source: Source) -> Result<(), Stop>
 }
 
 // Plain SR1 reads until this flag is set.
-// No mark to inline it: the compiler does so by itself, and better (docs/DECISIONS.md, "Marks to inline").
+#[inline(always)]
 pub fn until_flag(bus: &mut Bus, flag: u32) -> Result<(), Stop>
     requires { 0 < flag }
     ensures { Does (Step.flag flag ∷ []) bus.old bus.new result }

@@ -13,7 +13,7 @@ use i2c::{Previous, request_start, send_addr, send_start};
 use registers::{Bits, Bus, ReadCode, Source, Stop, WriteCode};
 
 // Sends START and waits until we are master.
-#[inline(always)]
+// No mark to inline it: its caller would lose its own (docs/DECISIONS.md, "Marks to inline").
 fn request_write(bus: &mut Bus) -> Result<(), Stop>
     ensures { Does request_write bus.old bus.new result }
 {

@@ -42,6 +42,13 @@ at_setup {b₁ = b₁} {b₂} {r} x q y = subst (λ (s : Setup). Does (q s) b₁
 pub waits_at_setup : {h : Handler} {b b₁ b₂ : Bus} {r : Result ⊤ Stop} → Same b b₁ → (q : Setup → List Step) → Waits h (q b₁.setup) b₁ b₂ r → Waits h (q b.setup) b₁ b₂ r
 waits_at_setup {h} {b₁ = b₁} {b₂} {r} x q y = subst (λ (s : Setup). Waits h (q s) b₁ b₂ r) x.setup y
 
+pub reaches_at_setup : {b b₁ b₂ : Bus} → Same b b₁ → (q q' : Setup → List Step) → Reaches (q b₁.setup) b₁ (q' b₁.setup) b₂ → Reaches (q b.setup) b₁ (q' b.setup) b₂
+reaches_at_setup {b₁ = b₁} {b₂} x q q' y = subst (λ (s : Setup). Reaches (q s) b₁ (q' s) b₂) x.setup y
+
+-- on from where the bus is now
+pub reaches_then : {q : List Step} {b : Bus} {q₁ : List Step} {b₁ : Bus} {q₂ : List Step} {b₂ : Bus} → Reaches q b q₁ b₁ → Reaches q₁ b₁ q₂ b₂ → Reaches q b q₂ b₂
+reaches_then g x = record { same = same_then g.same x.same; is = λ p. g.is p ∙ rw (← g.same.setup) (x.is p) }
+
 -- from here on
 pub here : {q : List Step} {b : Bus} → Reaches q b q b
 here = record { same = same_bus; is = λ p. refl }

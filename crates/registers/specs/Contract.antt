@@ -1,5 +1,5 @@
 -- The forms of the contracts: what a function's answer means, by the bus that it leaves and what comes of the rest of the run from there.
-use Rattle.std.specs.Prelude.{ℕ, ◌-◌, ◌*◌, ◌≤◌, ◌≡◌, false, ◌&&◌, leb, List, ◌++◌, length, Result, Ok, Err, MatchResult, ⊤}
+use Rattle.std.specs.Prelude.{ℕ, ◌+◌, ◌-◌, ◌≤◌, ◌≡◌, false, ◌&&◌, leb, List, [], ◌∷◌, ◌++◌, length, get_or, Result, Ok, Err, MatchResult, ⊤}
 use Rattle.std.specs.Borrow.{Bor, MutBor}
 use denote.Triple.Both.{Both}
 use Rattle.units.specs.declared.Setup.{Setup}
@@ -11,9 +11,9 @@ use Rattle.registers.specs.declared.BusError.{BusError}
 use Rattle.registers.specs.declared.Stop.{Stop}
 use Rattle.registers.specs.declared.Progress.{Progress}
 use Rattle.registers.specs.declared.access.Bus.{Bus}
-use Rattle.registers.specs.Access.{SR1, SR2, CR1, DR, CYC, wCR1, wCR2, wCCR, wTRISE, wSR1, wDR, entries_in, well, failed, cut_number, number}
+use Rattle.registers.specs.Access.{SR1, SR2, CR1, DR, CYC, wCR1, wCR2, wCCR, wTRISE, wSR1, wDR, cut, entries_in, well, failed, cut_number, number}
 use Rattle.registers.specs.Machine.{Step, Handler, handle}
-use Rattle.registers.specs.State.{State, at, After, Took, Found, then, resume, read, write, check, store_byte, after_bytes}
+use Rattle.registers.specs.State.{State, at, After, Took, Found, then, entry, received, resume, read, write, check}
 
 -- the code of a register that is read, and of one that is written
 abbrev pub read_code : ReadCode → ℕ
@@ -113,15 +113,36 @@ pub record Waits (h : Handler) (q : List Step) (b b' : Bus) (r : Result ⊤ Stop
   pub same : Same b b'
   pub is : (p : List Step) → resume b.setup (q ++ p) (state b) ≡ handled b.setup h (state b') r p
 
--- n of so many bytes fit, each with its wait over at once: two readings and three entries a byte
-abbrev pub BytesFit : Bus → (count n : ℕ) → Type 0
-BytesFit b count n =
-    (n ≤ count) × (2 * n ≤ length b.readings.now - b.progress.used) × (3 * n ≤ entries_in (length b.log.now) - b.progress.made)
+-- so many accesses fit, whatever they are: there are a reading and an entry for each
+abbrev pub Fits : Bus → ℕ → Type 0
+Fits b n = (n ≤ length b.readings.now - b.progress.used) × (n ≤ entries_in (length b.log.now) - b.progress.made)
 
--- a byte whose wait was over at once
-pub record WritesAtOnce (byte : ℕ) (b b' : Bus) : Type 0 where
+-- the word of a read of this register after so many other reads
+abbrev pub word_after : ReadCode → ℕ → Bus → ℕ
+word_after c k b = cut (read_code c) (get_or b.readings.now (b.progress.used + k) 0)
+
+-- a read that fits: each later word is one read nearer, and one access fewer fits
+pub record ReadsNext (c : ReadCode) (b b' : Bus) (v : ℕ) : Type 0 where
+  pub reads : Reads c b b' (Ok v)
+  pub word : v ≡ word_after c 0 b
+  pub later : (c' : ReadCode) (k : ℕ) → word_after c' k b' ≡ word_after c' (k + 1) b
+  pub fits : (n : ℕ) → Fits b n → Fits b' (n - 1)
+
+-- a write that fits: no later word comes nearer, and one access fewer fits
+pub record WritesNext (c : WriteCode) (v : ℕ) (b b' : Bus) : Type 0 where
+  pub writes : Writes c v b b' (Ok tt)
+  pub later : (c' : ReadCode) (k : ℕ) → word_after c' k b' ≡ word_after c' k b
+  pub fits : (n : ℕ) → Fits b n → Fits b' (n - 1)
+
+-- the low byte of a word that was read from DR is received
+pub record TakesByte (v : ℕ) (b b' : Bus) : Type 0 where
   pub same : Same b b'
-  pub is : state b' ≡ at b.readings.now (store_byte b.readings.now b.log.now b.progress byte) b.rx.now (after_bytes b.progress 1)
+  pub is : state b' ≡ received (entry DR v) (state b)
+
+-- a read of DR that fits: one access fewer fits
+pub record ReceivesNext (b b' : Bus) : Type 0 where
+  pub does : Does (Step.get DR ∷ []) b b' (Ok tt)
+  pub fits : (n : ℕ) → Fits b n → Fits b' (n - 1)
 
 -- A slice that a function is given, and one that it writes to: what it holds at the call (`entry`) and at the return (`exit`).
 

@@ -1,5 +1,5 @@
 -- The state of a run, and what is still to come of it: how the machine's log fills the caller's buffers.
-use Rattle.std.specs.Prelude.{Option, Some, None, ℕ, zero, suc, ◌+◌, ◌-◌, ◌*◌, Bool, true, false, cond, List, [], ◌∷◌, length, set, drop, get_or}
+use Rattle.std.specs.Prelude.{Option, Some, None, ℕ, zero, suc, ◌+◌, ◌-◌, Bool, true, false, cond, List, [], ◌∷◌, length, set, drop}
 use Rattle.units.specs.declared.Setup.{Setup}
 use Rattle.registers.specs.declared.Source.{Source}
 use Rattle.registers.specs.declared.BusError.{BusError}
@@ -7,7 +7,7 @@ use Rattle.registers.specs.declared.Cut.{Cut}
 use Rattle.registers.specs.declared.Entry.{Entry}
 use Rattle.registers.specs.declared.Progress.{Progress}
 use Rattle.registers.specs.Word.{has, BERR}
-use Rattle.registers.specs.Access.{SR1, CYC, wSR1, wDR, is_read, is_data, cut, low_byte, clear_word, entries_in, store, cut_of, Ending}
+use Rattle.registers.specs.Access.{SR1, wSR1, is_read, is_data, cut, low_byte, clear_word, entries_in, store, cut_of, Ending}
 use Rattle.registers.specs.Machine.{Step, exec, check_word}
 
 -- the readings, the record, the received buffer, and how far the run has come
@@ -28,18 +28,6 @@ unfoldable pub received : Entry → State → State
 received e (at rs lg rx b) =
     at rs lg (cond (is_data e.code) (set rx b.got (low_byte e.value)) rx)
     (record { used = b.used; made = b.made; got = cond (is_data e.code) (b.got + 1) b.got })
-
--- how far a run has come after so many bytes whose waits were over at once: CYC, SR1 and DR for each
-abbrev pub after_bytes : Progress → ℕ → Progress
-after_bytes b n = record { used = b.used + 2 * n; made = b.made + 3 * n; got = b.got }
-
--- the record after one such byte
-unfoldable pub store_byte : List ℕ → List ℕ → Progress → ℕ → List ℕ
-store_byte rs lg b byte =
-    store
-    (store (store lg b.made (entry CYC (cut CYC (get_or rs b.used 0)))) (b.made + 1) (entry SR1 (cut SR1 (get_or rs (b.used + 1) 0))))
-    (b.made + 2)
-    (entry wDR byte)
 
 -- a log replayed on a state
 unfoldable pub replay : List Entry → State → State

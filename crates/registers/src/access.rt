@@ -1,6 +1,6 @@
 // A run's registers, one access at a time: a read takes the next reading, and every access is recorded.
-ghost use Rattle.std.specs.Prelude.{◌≡◌, ◌+◌, ◌-◌, ◌*◌, ◌<◌, ◌≤◌, ◌^◌, false, [], ◌∷◌, length, get_or, set, leb};
-ghost use Rattle.registers.specs.Access.{SR1, DR, is_data, cut, entries_in, store, clear_word};
+ghost use Rattle.std.specs.Prelude.{◌≡◌, ◌+◌, ◌*◌, ◌<◌, ◌≤◌, false, [], ◌∷◌, length, set, leb};
+ghost use Rattle.registers.specs.Access.{DR, is_data, entries_in, store, clear_word};
 ghost use Rattle.registers.specs.Machine.{Step};
 
 use crate::{
@@ -22,7 +22,7 @@ pub struct Bus<'a> {
 }
 
 impl<'a> Bus<'a> {
-    ghost use Rattle.registers.specs.Contract.{read_code, Reads, Writes, Does, Starts, nothing_yet, BytesFit, WritesAtOnce};
+    ghost use Rattle.registers.specs.Contract.{read_code, Reads, Writes, Does, Starts, nothing_yet, Fits, word_after, ReadsNext, WritesNext, TakesByte, ReceivesNext};
 
     // Nothing is read, made or received as yet.
     pub fn new(setup: Setup, readings: &'a [u32], log: &'a mut [u32], rx: &'a mut [u8]) -> Bus<'a>
@@ -63,18 +63,13 @@ impl<'a> Bus<'a> {
         self.log.len() / ENTRY_WORDS <= self.progress.made
     }
 
-    // One read: the next reading, cut to its register and recorded. Record space is tested before readings.
+    // One read that fits: the next reading, cut to its register and recorded.
     #[inline(always)]
-    pub fn read(&mut self, from: ReadCode) -> Result<u32, Stop>
-        ensures { Reads from self.old self.new result }
+    pub fn record_read(&mut self, from: ReadCode) -> u32
+        requires { Fits self.old 1 }
+        ensures { ReadsNext from self.old self.new result }
     {
-        if self.is_full() {
-            return Err(Stop::CutShort(Cut::NoRecord(from.into())));
-        }
         let used = self.progress.used;
-        if self.readings.len() <= used {
-            return Err(Stop::CutShort(Cut::NoReadings));
-        }
         let reading = self.readings[used];
         let value = match from {
             ReadCode::Cyc => reading,
@@ -87,17 +82,29 @@ impl<'a> Bus<'a> {
         put_entry(self.log, self.progress.made, entry);
         self.progress.used = used + 1;
         self.progress.made += 1;
-        Ok(value)
+        value
     }
 
-    // One write, recorded.
+    // One read. Record space is tested before readings.
     #[inline(always)]
-    pub fn write(&mut self, to: WriteCode, value: u32) -> Result<(), Stop>
-        ensures { Writes to value self.old self.new result }
+    pub fn read(&mut self, from: ReadCode) -> Result<u32, Stop>
+        ensures { Reads from self.old self.new result }
     {
         if self.is_full() {
-            return Err(Stop::CutShort(Cut::NoRecord(to.into())));
+            return Err(Stop::CutShort(Cut::NoRecord(from.into())));
         }
+        if self.readings.len() <= self.progress.used {
+            return Err(Stop::CutShort(Cut::NoReadings));
+        }
+        Ok(self.record_read(from))
+    }
+
+    // One write that fits, recorded.
+    #[inline(always)]
+    pub fn record_write(&mut self, to: WriteCode, value: u32)
+        requires { self.old.progress.made < entries_in (length self.old.log.now) }
+        ensures { WritesNext to value self.old self.new }
+    {
         let entry = Entry {
             code: to.into(),
             value,
@@ -105,6 +112,17 @@ impl<'a> Bus<'a> {
         let made = self.progress.made;
         put_entry(self.log, made, entry);
         self.progress.made = made + 1;
+    }
+
+    // One write.
+    #[inline(always)]
+    pub fn write(&mut self, to: WriteCode, value: u32) -> Result<(), Stop>
+        ensures { Writes to value self.old self.new result }
+    {
+        if self.is_full() {
+            return Err(Stop::CutShort(Cut::NoRecord(to.into())));
+        }
+        self.record_write(to, value);
         Ok(())
     }
 
@@ -118,16 +136,35 @@ impl<'a> Bus<'a> {
         Ok(())
     }
 
-    // A read of DR: its low byte is received.
+    // The low byte of a word that was read from DR is received.
+    #[inline(always)]
+    fn take_byte(&mut self, word: u32)
+        requires { self.old.progress.got < self.old.progress.used }
+        ensures { TakesByte word self.old self.new }
+    {
+        let got = self.progress.got;
+        put_byte(self.rx, got, (word % 256) as u8);
+        self.progress.got = got + 1;
+    }
+
+    // A read of DR.
     #[inline(always)]
     pub fn read_data(&mut self) -> Result<(), Stop>
         ensures { Does (Step.get DR ∷ []) self.old self.new result }
     {
         let word = self.read(ReadCode::Dr)?;
-        let got = self.progress.got;
-        put_byte(self.rx, got, (word % 256) as u8);
-        self.progress.got = got + 1;
+        self.take_byte(word);
         Ok(())
+    }
+
+    // A read of DR that fits.
+    #[inline(always)]
+    pub fn record_data(&mut self)
+        requires { Fits self.old 1 }
+        ensures { ReceivesNext self.old self.new }
+    {
+        let word = self.record_read(ReadCode::Dr);
+        self.take_byte(word);
     }
 
     // Set in CR1: read it, then write it with only these bits altered.
@@ -148,53 +185,22 @@ impl<'a> Bus<'a> {
         self.write(WriteCode::Sr1, clear_word(error))
     }
 
-    // How many of so many bytes fit, each with its wait over at once: CYC, SR1 and DR.
+    // How many of so many bytes fit, each in three accesses.
     pub fn bytes_that_fit(&self, count: usize) -> usize
-        ensures { BytesFit self.now count result }
+        ensures { (result ≤ count) × Fits self.now (3 * result) }
     {
         let entries = self.log.len() / ENTRY_WORDS;
-        let recorded = entries.saturating_sub(self.progress.made) / 3;
-        let read = self.readings.len().saturating_sub(self.progress.used) / 2;
-        count.min(recorded).min(read)
+        let recorded = entries.saturating_sub(self.progress.made);
+        let read = self.readings.len().saturating_sub(self.progress.used);
+        count.min(recorded.min(read) / 3)
     }
 
-    // The SR1 word that a wait polls first.
-    #[tactic(auto, unfolding(crate::specs::Access::cut))]
-    pub fn first_sr1(&self) -> u32
-        requires { self.now.progress.used + 1 < length self.now.readings.now }
-        ensures { result ≡ cut SR1 (get_or self.now.readings.now (self.now.progress.used + 1) 0) }
+    // The SR1 word of a read after so many others.
+    pub fn sr1_after(&self, reads: usize) -> u32
+        requires { Fits self.now (reads + 1) }
+        ensures { result ≡ word_after ReadCode.Sr1 reads self.now }
     {
-        self.readings[self.progress.used + 1] % 65536
-    }
-
-    // A byte whose wait is over at once: CYC, SR1 and DR, all of which fit.
-    #[inline(always)]
-    pub fn write_at_once(&mut self, byte: u32)
-        requires { (self.old.progress.used + 1 < length self.old.readings.now) × (self.old.progress.made + 2 < entries_in (length self.old.log.now)) }
-        ensures { WritesAtOnce byte self.old self.new }
-    {
-        let made = self.progress.made;
-        let used = self.progress.used;
-        // Both before the record is touched, so that neither is loaded twice.
-        let cycles = self.readings[used];
-        let sr1 = self.first_sr1();
-        let cyc = Entry {
-            code: ReadCode::Cyc.into(),
-            value: cycles,
-        };
-        put_entry(self.log, made, cyc);
-        let polled = Entry {
-            code: ReadCode::Sr1.into(),
-            value: sr1,
-        };
-        put_entry(self.log, made + 1, polled);
-        let sent = Entry {
-            code: WriteCode::Dr.into(),
-            value: byte,
-        };
-        put_entry(self.log, made + 2, sent);
-        self.progress.used = used + 2;
-        self.progress.made = made + 3;
+        self.readings[self.progress.used + reads] % 65536
     }
 }
 

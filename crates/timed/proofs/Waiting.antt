@@ -6,13 +6,14 @@ use Rattle.units.specs.declared.Setup.{Setup}
 use Rattle.registers.specs.declared.Awaited.{Awaited}
 use Rattle.registers.specs.declared.BusError.{BusError}
 use Rattle.registers.specs.declared.ReadCode.{ReadCode}
+use Rattle.registers.specs.declared.Source.{Source}
 use Rattle.registers.specs.declared.WriteCode.{WriteCode}
 use Rattle.registers.specs.declared.Stop.{Stop}
 use Rattle.registers.specs.declared.access.Bus.{Bus}
 use Rattle.registers.specs.Access.{is_data, clear_word, Access}
 use Rattle.registers.specs.Machine.{Step, Handler, Act, access, next, handle, clear, since, polled_register, poll_error, poll_ready, after_poll}
 use Rattle.registers.specs.State.{State, at, Took, Found, read}
-use Rattle.registers.specs.Contract.{read_code, state, Same, found_of, handled, Reads, Writes, Does, Reaches, Waits}
+use Rattle.registers.specs.Contract.{read_code, state, Same, found_of, handled, Reads, Writes, Does, Reaches, Waits, word_after, ReadsNext}
 use Rattle.registers.proofs.Laws.{write_unfailed}
 use Rattle.registers.proofs.Steps.{same_then, HandsOn, rewritten, write_does, call_step, call_stops, read_step, read_stops}
 use Rattle.timed.specs.Poll.{no_error, over, WaitsOn}
@@ -53,7 +54,7 @@ module _ (w : Awaited) (v : ℕ) where
       go (Some a) k = absurd (let z : ◌≡◌ {A = ℕ} 0 1 = cc in omega arith)
       go None k = refl
 
-pub next-over : (s : Setup) (w : Awaited) (l : ℕ) (h : Handler) (t v : ℕ) → over w v ≡ true → next s (Step.poll w l h t) v ≡ []
+next-over : (s : Setup) (w : Awaited) (l : ℕ) (h : Handler) (t v : ℕ) → over w v ≡ true → next s (Step.poll w l h t) v ≡ []
 next-over s w l h t v e = next_polled s w l h t v (over_clean w v e) (over_is w v e (over_clean w v e))
 
 module _ {q : List Step} {b b₁ : Bus} (w : Awaited) (l : ℕ) (h : Handler) (t v : ℕ) (g : Reaches q b (next b.setup (Step.poll w l h t) v) b₁) where
@@ -103,6 +104,15 @@ pub poll_step : {q : List Step} {b : Bus} {w : Awaited} {l : ℕ} {h : Handler} 
     → {c : ReadCode} → read_code c ≡ polled_register w → {b₂ : Bus} {r : Result ℕ Stop} → Reads c b₁ b₂ r → {v : ℕ} → r ≡ Ok v
     → Reaches q b (next b.setup (Step.poll w l h t) v) b₂
 poll_step {w = w} g f x e = rewritten (append-nil _) (read_step g x (rw f) (rw f (polled_other w)) e refl)
+
+-- a wait for a flag that is over at once: CYC, and the poll's read of SR1
+pub wait_at_once : {q : List Step} {b : Bus} {f l : ℕ} {n : Source} {h : Handler} {q₁ : List Step} {b₁ : Bus} → Reaches q b (Step.timed (Awaited.Flag f n) l h ∷ q₁) b₁
+    → {t : ℕ} {b₂ : Bus} → ReadsNext ReadCode.Cyc b₁ b₂ t → {v : ℕ} {b₃ : Bus} → ReadsNext ReadCode.Sr1 b₂ b₃ v
+    → over (Awaited.Flag f n) (word_after ReadCode.Sr1 1 b₁) ≡ true → Reaches q b q₁ b₃
+wait_at_once {b = b} {f} {l} {n} {h} g {t} x {v} y o =
+    let w = Awaited.Flag f n in
+    let first = read_step g x.reads refl refl refl (next_timed b.setup w l h t) in
+    read_step first y.reads refl refl refl (next-over b.setup w l h t v (rw (y.word, x.later ReadCode.Sr1 0) o))
 
 -- the wrapped difference
 pub since_is : (r t v : ℕ) → (r + t) % 2 ^ 32 ≡ v → r < 2 ^ 32 → t < 2 ^ 32 → r ≡ since t v

@@ -1,19 +1,51 @@
 // The bytes of a polling operation, once it is prepared, named and ordered as the Rust's src/i2c.rs.
 #![tactic(auto)]
 
+ghost use Rattle.std.specs.Prelude.{◌≡◌, ◌≤◌, ◌-◌, ◌&&◌, length, drop};
 ghost use Rattle.buslist.specs.Meaning.{Operation};
-ghost use Rattle.registers.specs.Contract.{Does};
+ghost use Rattle.registers.specs.Word.{has, TXE, BTF, RXNE};
+ghost use Rattle.registers.specs.Contract.{Does, Reaches};
+ghost use Rattle.checks.specs.Flags.{no_error_flag};
 ghost use Rattle.i2c.specs.Polling.{send_byte, recv_byte, write_bytes, read_bytes, last_write, last_read, transfer};
 
-use checks::{check_twice, check_until, until_stop_clear};
+use checks::{check_twice, check_until, no_error_flag, until_stop_clear};
 use i2c::send_stop;
-use registers::{Bits, Bus, BusError, Source, Stop, WriteCode};
+use registers::{Bits, Bus, BusError, ReadCode, Source, Stop, WriteCode, has};
+
+// Whether both checks of a byte are over at once, by the words that they read.
+fn sent_at_once(before: u32, after: u32) -> bool
+    ensures { result ≡ no_error_flag before && has TXE before && no_error_flag after && has BTF after }
+{
+    no_error_flag(before)
+        & has(before, registers::TXE)
+        & no_error_flag(after)
+        & has(after, registers::BTF)
+}
+
+// Sends the first bytes that fit and whose checks are over at once. The answer is how many. All after them go by
+// `send_byte`: at most one byte of an operation is looked at ahead in vain.
+#[inline(always)]
+fn send_ready(bus: &mut Bus, bytes: &[u8]) -> usize
+    ensures { (result ≤ length bytes.now) × Reaches (write_bytes bytes.now) bus.old (write_bytes (drop result bytes.now)) bus.new }
+{
+    let count = bus.bytes_that_fit(bytes.len());
+    for (i, byte) in bytes[..count].iter().enumerate() {
+        if !sent_at_once(bus.sr1_after(0), bus.sr1_after(1)) {
+            return i;
+        }
+        bus.record_read(ReadCode::Sr1);
+        bus.record_write(WriteCode::Dr, u32::from(*byte));
+        bus.record_read(ReadCode::Sr1);
+    }
+    count
+}
 
 #[inline(always)]
 fn write_bytes(bus: &mut Bus, bytes: &[u8]) -> Result<(), Stop>
     ensures { Does (write_bytes bytes.now) bus.old bus.new result }
 {
-    for byte in bytes {
+    let ready = send_ready(bus, bytes);
+    for byte in &bytes[ready..] {
         send_byte(bus, *byte)?;
     }
     Ok(())
@@ -36,11 +68,37 @@ fn recv_byte(bus: &mut Bus) -> Result<(), Stop>
     bus.read_data()
 }
 
+// Whether the wait for a byte is over at once, by the words of its check and of the read of SR1 after it.
+fn received_at_once(checked: u32, again: u32) -> bool
+    ensures { result ≡ no_error_flag checked && has RXNE again }
+{
+    no_error_flag(checked) & has(again, registers::RXNE)
+}
+
+// Receives the first bytes that fit and whose waits are over at once. The answer is how many. All after them go by
+// `recv_byte`, as in `send_ready`.
+#[inline(always)]
+fn recv_ready(bus: &mut Bus, count: usize) -> usize
+    ensures { (result ≤ count) × Reaches (read_bytes count) bus.old (read_bytes (count - result)) bus.new }
+{
+    let fit = bus.bytes_that_fit(count);
+    for i in 0..fit {
+        if !received_at_once(bus.sr1_after(0), bus.sr1_after(1)) {
+            return i;
+        }
+        bus.record_read(ReadCode::Sr1);
+        bus.record_read(ReadCode::Sr1);
+        bus.record_data();
+    }
+    fit
+}
+
 #[inline(always)]
 fn read_bytes(bus: &mut Bus, count: usize) -> Result<(), Stop>
     ensures { Does (read_bytes count) bus.old bus.new result }
 {
-    for _ in 0..count {
+    let ready = recv_ready(bus, count);
+    for _ in ready..count {
         recv_byte(bus)?;
     }
     Ok(())
@@ -85,7 +143,6 @@ pub fn write_transfer(bus: &mut Bus, last: bool, bytes: &[u8]) -> Result<(), Sto
 
 // The bytes of a read in a call, once prepared.
 #[tactic(auto, unfolding(i2c::specs::Polling::transfer))]
-#[inline(always)]
 pub fn read_transfer(bus: &mut Bus, last: bool, count: usize) -> Result<(), Stop>
     ensures { Does (transfer last (Operation.read count)) bus.old bus.new result }
 {

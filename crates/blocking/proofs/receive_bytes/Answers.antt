@@ -1,25 +1,29 @@
-use Prim.Native.Nat.{ℕ, zero, suc, ◌+◌, ◌-◌, ◌<◌, ◌≤◌}
-use native.Mathlib.Omega.{arith}
-use mathlib.Core.Path.{◌≡◌}
-use mathlib.Core.List.{[], ◌++◌}
-use Rattle.units.specs.declared.Setup.{Setup}
+use Prim.Native.Nat.{ℕ, ◌+◌, ◌-◌, ◌<◌, ◌≤◌}
+use mathlib.Core.List.{List, [], ◌++◌}
+use Rattle.registers.specs.declared.access.Bus.{Bus}
+use Rattle.registers.specs.Machine.{Step}
+use Rattle.registers.specs.Contract.{Reaches}
+use Rattle.registers.proofs.Steps.{at_setup, reaches_at_setup, reaches_then, call_step, call_stops, ends_well, rewritten}
 use Rattle.blocking.specs.Blocking.{receive, receive_bytes}
-use Rattle.registers.proofs.Steps.{at_setup, call_step, call_stops, ends_well, rewritten}
+use Rattle.blocking.proofs.Bytes.{next-byte, no_byte}
 use Rattle.blocking.proofs.receive_bytes.Goals as goal
 
--- the next byte; none left
-next-byte : (s : Setup) (n i : ℕ) → i < n → receive_bytes s (n - i) ≡ receive s ++ receive_bytes s (n - (i + 1))
-unfolding receive_bytes
-next-byte s n i h = let e : n - i ≡ suc (n - (i + 1)) = omega arith in rw e
+-- the bytes that were ready, and then others
+module _ {q : List Step} {b b₁ : Bus} (n m i : ℕ) (g : Reaches q b (receive_bytes b.setup (n - m)) b₁) {b₂ : Bus}
+    (x : Reaches (receive_bytes b₁.setup (n - m)) b₁ (receive_bytes b₁.setup (n - i)) b₂) where
+  left : Reaches q b (receive_bytes b.setup (n - i)) b₂
+  left = reaches_then g (reaches_at_setup g.same (λ s. receive_bytes s (n - m)) (λ s. receive_bytes s (n - i)) x)
 
-no_byte : (s : Setup) (n i : ℕ) → n ≤ i → receive_bytes s (n - i) ≡ []
-unfolding receive_bytes
-no_byte s n i h = let e : n - i ≡ zero = omega arith in rw e
+  at_byte : i < n → Reaches q b (receive b.setup ++ receive_bytes b.setup (n - (i + 1))) b₂
+  at_byte h = rewritten (next-byte _ n i h) left
+
+  all_received : n ≤ i → Reaches q b [] b₂
+  all_received h = rewritten (no_byte _ n i h) left
 
 pub returns-in_err-receive : goal.returns-in_err-receive
 returns-in_err-receive c =
-    let i = c.loop.invariant in
-    call_stops (at_setup i.same receive c.receive.ensures) _ (rewritten (next-byte _ _ _ c.loop-test.true) i) c.in_err-receive.was c.from_residual.ensures
+    let next = at_byte _ _ _ c.receive_ready-ready.ensures.1 c.loop.invariant c.loop-test.true in
+    call_stops (at_setup next.same receive c.receive.ensures) _ next c.in_err-receive.was c.from_residual.ensures
 
 pub loop-preserved : goal.loop-preserved
 loop-preserved c =
@@ -27,4 +31,4 @@ loop-preserved c =
     call_step (at_setup i.same receive c.receive.ensures) _ (rewritten (next-byte _ _ _ c.loop-test.true) i) c.in_ok-receive.was
 
 pub returns : goal.returns
-returns c = ends_well (rewritten (no_byte _ _ _ c.loop-test.false) c.loop.invariant)
+returns c = ends_well (all_received _ _ _ c.receive_ready-ready.ensures.1 c.loop.invariant c.loop-test.false)

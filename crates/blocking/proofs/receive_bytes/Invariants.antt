@@ -4,4 +4,5 @@ use Rattle.blocking.specs.Blocking.{receive_bytes}
 use Rattle.blocking.proofs.receive_bytes.Given as goal
 
 abbrev pub invariant-loop : goal.invariant-loop
-invariant-loop l = Reaches (receive_bytes l.initial.bus.setup l.count) l.initial.bus (receive_bytes l.initial.bus.setup (l.count - l.counter)) l.bus
+invariant-loop l =
+    Reaches (receive_bytes l.initial.bus.setup (l.count - l.ready)) l.initial.bus (receive_bytes l.initial.bus.setup (l.count - l.counter)) l.bus

@@ -4,4 +4,4 @@ use Rattle.i2c.specs.Polling.{read_bytes}
 use Rattle.transfer.proofs.read_bytes.Given as goal
 
 abbrev pub invariant-loop : goal.invariant-loop
-invariant-loop l = Reaches (read_bytes l.count) l.initial.bus (read_bytes (l.count - l.counter)) l.bus
+invariant-loop l = Reaches (read_bytes (l.count - l.ready)) l.initial.bus (read_bytes (l.count - l.counter)) l.bus

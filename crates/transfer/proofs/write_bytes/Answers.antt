@@ -4,7 +4,8 @@ use mathlib.Core.Path.{◌≡◌}
 use mathlib.Core.List.{List, [], ◌++◌}
 use lib.ListN.{length, drop, get_or, drop_of_length-le}
 use lib.Seq.{drop-cons}
-use Rattle.registers.proofs.Steps.{here, rewritten, call_step, call_stops, ends_well}
+use Rattle.registers.proofs.Fits.{rest}
+use Rattle.registers.proofs.Steps.{here, reaches_then, rewritten, call_step, call_stops, ends_well}
 use Rattle.i2c.specs.Polling.{send_byte, write_bytes}
 use Rattle.transfer.proofs.write_bytes.Goals as goal
 
@@ -22,10 +23,15 @@ loop-byte-init c = here
 
 pub returns-in_err-send_byte : goal.returns-in_err-send_byte
 returns-in_err-send_byte c =
-    call_stops c.send_byte.ensures _ (rewritten (next-byte _ _ c.loop-byte-test.true) c.loop-byte.invariant) c.in_err-send_byte.was c.from_residual.ensures
+    let e = rest c.args.bytes.now c.send_ready-ready.result in
+    call_stops (rw e at c.send_byte.ensures) _ (reaches_then c.send_ready-ready.ensures.1 (rewritten (next-byte _ _ (rw e at c.loop-byte-test.true)) c.loop-byte.invariant)) c.in_err-send_byte.was c.from_residual.ensures
 
 pub loop-byte-preserved : goal.loop-byte-preserved
-loop-byte-preserved c = call_step c.send_byte.ensures _ (rewritten (next-byte _ _ c.loop-byte-test.true) c.loop-byte.invariant) c.in_ok-send_byte.was
+loop-byte-preserved c =
+    let e = rest c.args.bytes.now c.send_ready-ready.result in
+    call_step (rw e at c.send_byte.ensures) _ (rewritten (next-byte _ _ (rw e at c.loop-byte-test.true)) c.loop-byte.invariant) c.in_ok-send_byte.was
 
 pub returns : goal.returns
-returns c = ends_well (rewritten (no_byte _ _ c.loop-byte-test.false) c.loop-byte.invariant)
+returns c =
+    let e = rest c.args.bytes.now c.send_ready-ready.result in
+    ends_well (reaches_then c.send_ready-ready.ensures.1 (rewritten (no_byte _ _ (rw e at c.loop-byte-test.false)) c.loop-byte.invariant))

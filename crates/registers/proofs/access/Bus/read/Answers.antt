@@ -1,11 +1,10 @@
-use mathlib.Core.Path.{ap, refl, sym, ◌∙◌}
+use native.Mathlib.Omega.{arith}
+use mathlib.Core.Path.{ap, sym, ◌∙◌}
 use borrow.Author.Tests.{leb-true, leb-false}
 use Rattle.registers.specs.Contract.{found_of}
-use Rattle.registers.proofs.Laws.{read-full, read_empty, read_done, reads_code, cut_register, cut_cycles}
-use Rattle.std.proofs.Common.{rules}
+use Rattle.registers.proofs.Laws.{read-full, read_empty}
 use Rattle.registers.proofs.Steps.{same_bus}
 use Rattle.registers.proofs.access.Bus.read.Goals as goal
-use Rattle.registers.proofs.access.Bus.read.Goals.{in-Cyc, in_default}
 
 pub returns-then-is_full : goal.returns-then-is_full
 returns-then-is_full c =
@@ -14,19 +13,17 @@ returns-then-is_full c =
       is = rw c.into.ensures (ap found_of (sym (read-full _ _ _ _ _ (leb-true _ _ (sym c.is_full.ensures ∙ c.if-is_full.true)))));
     }
 
-pub returns-then-self-used : goal.returns-then-self-used
-returns-then-self-used c =
+pub returns-then-self : goal.returns-then-self
+returns-then-self c =
     record {
       same = same_bus;
-      is = ap found_of (sym (read_empty _ _ _ _ _ (leb-false _ _ (sym c.is_full.ensures ∙ c.if-is_full.false)) c.if-self-used.true));
+      is = ap found_of (sym (read_empty _ _ _ _ _ (leb-false _ _ (sym c.is_full.ensures ∙ c.if-is_full.false)) c.if-self.true));
     }
 
+pub record_read-requires : goal.record_read-requires
+record_read-requires c =
+    let h = leb-false _ _ (sym c.is_full.ensures ∙ c.if-is_full.false) in
+    (omega (arith, c.if-self.false), omega (arith, h))
+
 pub returns : goal.returns
-returns c =
-    record {
-      same = record { setup = refl; readings = refl; log = refl; rx = refl };
-      is = ap found_of
-          (read_done _ _ _ _ _ _ _ (reads_code _) (leb-false _ _ (sym c.is_full.ensures ∙ c.if-is_full.false)) c.if-self-used.false
-          ((elim c.match-from.branch [ in-Cyc w ↦ w.value-is ∙ cut_cycles _ _ w.in-Cyc.is (search rules) | in_default w ↦ w.value-is ∙ cut_register _ _ w.in_default.not-Cyc ]))
-          (rw (← c.into-2.ensures) c.put_entry.ensures));
-    }
+returns c = c.record_read.ensures.reads

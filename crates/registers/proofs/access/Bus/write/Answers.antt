@@ -1,6 +1,6 @@
-use mathlib.Core.Path.{refl, sym, ◌∙◌}
+use mathlib.Core.Path.{sym, ◌∙◌}
 use borrow.Author.Tests.{leb-true, leb-false}
-use Rattle.registers.proofs.Laws.{write-full, write_done, writes_code}
+use Rattle.registers.proofs.Laws.{write-full}
 use Rattle.registers.proofs.Steps.{same_bus}
 use Rattle.registers.proofs.access.Bus.write.Goals as goal
 
@@ -11,9 +11,8 @@ returns-then-is_full c =
       is = rw c.into.ensures (sym (write-full _ _ _ _ _ _ (leb-true _ _ (sym c.is_full.ensures ∙ c.if-is_full.true))));
     }
 
+pub record_write-requires : goal.record_write-requires
+record_write-requires c = leb-false _ _ (sym c.is_full.ensures ∙ c.if-is_full.false)
+
 pub returns : goal.returns
-returns c =
-    record {
-      same = record { setup = refl; readings = refl; log = refl; rx = refl };
-      is = write_done _ _ _ _ _ _ _ (writes_code _) (leb-false _ _ (sym c.is_full.ensures ∙ c.if-is_full.false)) (rw (← c.into-2.ensures) c.put_entry.ensures);
-    }
+returns c = c.record_write.ensures.writes

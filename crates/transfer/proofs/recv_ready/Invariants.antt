@@ -1,0 +1,7 @@
+use Prim.Native.Nat.{◌-◌, ◌*◌}
+use Rattle.registers.specs.Contract.{Reaches, Fits}
+use Rattle.i2c.specs.Polling.{read_bytes}
+use Rattle.transfer.proofs.recv_ready.Given as goal
+
+abbrev pub invariant-loop-i : goal.invariant-loop-i
+invariant-loop-i l = Reaches (read_bytes l.count) l.initial.bus (read_bytes (l.count - l.i)) l.bus × Fits l.bus (3 * (l.fit - l.i))
