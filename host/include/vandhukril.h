@@ -111,7 +111,7 @@ void bus_run(const uint8_t *list, size_t list_length,
              uint32_t *record, size_t record_length,
              uint64_t counts[VANDHUKRIL_COUNTS]);
 
-/* What stands for a speed word where the settings have none. */
+/* What stands for a speed word where there is none. */
 #define VANDHUKRIL_NO_WORD UINT32_C(4294967295)
 
 /*
@@ -124,6 +124,39 @@ void bus_run(const uint8_t *list, size_t list_length,
 uint32_t speed_cr2(uint32_t pclk1, uint32_t mode, uint32_t frequency);
 uint32_t speed_trise(uint32_t pclk1, uint32_t mode, uint32_t frequency);
 uint32_t speed_ccr(uint32_t pclk1, uint32_t mode, uint32_t frequency);
+
+/* The usual speeds of a clock, in the order of their table: the mode, and the frequency in kilohertz. And how many. */
+enum vandhukril_speed {
+    VANDHUKRIL_STANDARD_10 = 0,
+    VANDHUKRIL_STANDARD_20 = 1,
+    VANDHUKRIL_STANDARD_50 = 2,
+    VANDHUKRIL_STANDARD_100 = 3,
+    VANDHUKRIL_FAST_2_1_125 = 4,
+    VANDHUKRIL_FAST_2_1_200 = 5,
+    VANDHUKRIL_FAST_2_1_250 = 6,
+    VANDHUKRIL_FAST_2_1_400 = 7,
+    VANDHUKRIL_FAST_16_9_125 = 8,
+    VANDHUKRIL_FAST_16_9_200 = 9,
+    VANDHUKRIL_FAST_16_9_250 = 10,
+    VANDHUKRIL_FAST_16_9_400 = 11,
+    VANDHUKRIL_SPEEDS = 12
+};
+
+/* The clocks of the table: pclk1 in whole megahertz, from the least to the most. And how many words it has. */
+enum {
+    VANDHUKRIL_LEAST_MHZ = 2,
+    VANDHUKRIL_MOST_MHZ = 36,
+    VANDHUKRIL_SPEED_WORDS = 420
+};
+
+/*
+ * The CCR word of a usual speed: what speed_ccr answers for it, out of a constant table.
+ *
+ * The index is VANDHUKRIL_SPEEDS * (megahertz - VANDHUKRIL_LEAST_MHZ) + speed, of an enum vandhukril_speed: a larger
+ * speed would be one of a later clock. From VANDHUKRIL_SPEED_WORDS on there is no word, and the answer is
+ * VANDHUKRIL_NO_WORD. Any other clock or frequency has its word by speed_ccr.
+ */
+uint32_t speed_table(uint32_t index);
 
 #ifdef __cplusplus
 }

@@ -22,10 +22,11 @@ mod raw {
         pub safe fn speed_cr2(pclk1: u32, mode: u32, frequency: u32) -> u32;
         pub safe fn speed_trise(pclk1: u32, mode: u32, frequency: u32) -> u32;
         pub safe fn speed_ccr(pclk1: u32, mode: u32, frequency: u32) -> u32;
+        pub safe fn speed_table(index: u32) -> u32;
     }
 }
 
-pub(crate) use raw::{speed_ccr, speed_cr2, speed_trise};
+pub(crate) use raw::{speed_ccr, speed_cr2, speed_table, speed_trise};
 
 /// The answer, calls ended well, readings used, accesses made and bytes received of a run.
 pub(crate) fn bus_run(
@@ -65,6 +66,22 @@ mod tests {
     fn every_buffer_may_be_empty() {
         let counts = bus_run(&[], &[], &mut [], &mut []);
         assert_eq!(counts, [20, 0, 0, 0, 0]);
+    }
+
+    #[test]
+    fn past_the_end_of_the_table_there_is_no_word() {
+        for index in [
+            420,
+            421,
+            839,
+            840,
+            1 << 16,
+            1 << 31,
+            (1 << 31) + 419,
+            u32::MAX,
+        ] {
+            assert_eq!(speed_table(index), NO_WORD);
+        }
     }
 
     #[test]

@@ -3,8 +3,9 @@
 //! The engine takes a bus list and readings, performs the bring-up and then the calls of the list in
 //! order, and stops after the first call that does not end well. It answers with every register
 //! access, the bytes received, and how the run ended. It is written and proved in Rattle, and linked
-//! here as a static library. This crate adds no meaning of its own: [`run`] and [`speed`] hand the
-//! engine's answers on with Rust types around them.
+//! here as a static library. This crate adds no meaning to them: [`run`], the words of
+//! [`speed`] and those of [`usual`] are the engine's answers with Rust types around them. What a word
+//! is on the bus ([`speed::on_bus`]) is a formula of this crate.
 //!
 //! | To do this | use |
 //! |---|---|
@@ -13,7 +14,8 @@
 //! | see what the run did | [`accesses`], [`Report`] |
 //! | learn why it did not end well | [`Error`], [`Cause`], [`Refusal`] |
 //! | look at a list, right or wrong | [`BusList::from_bytes`], [`explain`], [`show`] |
-//! | know the speed words of settings | [`speed`] |
+//! | know the speed words of settings, and what a CCR word is on the bus | [`speed`] |
+//! | show all usual speeds | [`usual`] |
 //!
 //! # Example
 //!
@@ -59,6 +61,7 @@ mod run;
 mod settings;
 pub mod speed;
 mod text;
+pub mod usual;
 
 pub use error::{Cause, DoesNotFit, Error, NoAcknowledge, Refusal};
 pub use list::{Address, BusList, Call, Fault, Kind, Operation, Warning, explain, show};

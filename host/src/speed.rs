@@ -1,6 +1,6 @@
-//! The speed words: what the bring-up writes to CR2, TRISE and CCR.
+//! The speed words: what the bring-up writes to CR2, TRISE and CCR; and what a CCR word is on the bus.
 //!
-//! Each function answers `None` where the settings have no word, that is, for a frequency of 0 or
+//! The functions of the three words answer `None` where the settings have no word, that is, for a frequency of 0 or
 //! above 400,000 Hz. A bus list with such a frequency is refused.
 //!
 //! ```
@@ -18,7 +18,7 @@ use crate::settings::{Hertz, Mode};
 /// What the engine answers where there is no word.
 const NO_WORD: u32 = 4_294_967_295;
 
-fn word(answer: u32) -> Option<u32> {
+pub(crate) fn word(answer: u32) -> Option<u32> {
     (answer != NO_WORD).then_some(answer)
 }
 
@@ -55,6 +55,31 @@ pub fn ccr(pclk1: Hertz, mode: Mode, frequency: Hertz) -> Option<u32> {
     word(engine::speed_ccr(pclk1.0, mode.number(), frequency.0))
 }
 
+/// What a CCR word is on the bus: the frequency of SCL in hertz, by RM0008's formula. A period of SCL is
+/// 2, 3 or 25 times the word's field in cycles of pclk1, by the mode. Rise times, and a device that holds
+/// SCL low, make it longer.
+///
+/// The field is rounded down and has a least value. So this can be more than was asked for, or less.
+///
+/// `None` for a field of 0, and for a word with other flags than those of a mode.
+///
+/// ```
+/// use vandhukril::{Hertz, Mode, speed};
+/// let pclk1 = Hertz(36_000_000);
+/// let ccr = speed::ccr(pclk1, Mode::Fast16To9, Hertz(400_000)).expect("it is not above 400,000 Hz");
+/// assert_eq!(speed::on_bus(pclk1, ccr), Some(480_000.0));
+/// ```
+pub fn on_bus(pclk1: Hertz, ccr: u32) -> Option<f64> {
+    let field = ccr & 0x0fff;
+    let cycles = match ccr & !0x0fff {
+        0 => 2 * field,
+        0x8000 => 3 * field,
+        0xc000 => 25 * field,
+        _ => return None,
+    };
+    (field != 0).then(|| f64::from(pclk1.0) / f64::from(cycles))
+}
+
 #[cfg(test)]
 mod tests {
     use super::*;
@@ -78,6 +103,28 @@ mod tests {
             ),
         };
         Some([mhz % 64, trise % 64, ccr].map(|word| word as u32))
+    }
+
+    #[test]
+    fn frequencies_on_the_bus() {
+        let pclk1 = Hertz(36_000_000);
+        for (ccr, hertz) in [
+            (0x00b4, Some(100_000.0)),
+            (0x0fff, Some(36_000_000.0 / 8190.0)),
+            (0x801e, Some(400_000.0)),
+            (0xc003, Some(480_000.0)),
+            (0xcfff, Some(36_000_000.0 / 102_375.0)),
+            (0x0000, None),
+            (0x8000, None),
+            (0xc000, None),
+            (0x4001, None),
+            (0x1001, None),
+            (0x1_0001, None),
+            (NO_WORD, None),
+        ] {
+            assert_eq!(on_bus(pclk1, ccr), hertz, "{ccr:04x}");
+        }
+        assert_eq!(on_bus(Hertz(0), 4), Some(0.0));
     }
 
     #[test]

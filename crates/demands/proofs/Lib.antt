@@ -10,4 +10,5 @@ pub mod ByKind
 pub mod Corollaries
 pub mod Witness
 pub mod ByWidth
+pub mod SpeedTable
 pub mod Examples

@@ -4,3 +4,4 @@ pub mod Corollaries
 pub mod Examples
 pub mod ByKind
 pub mod ByWidth
+pub mod SpeedTable

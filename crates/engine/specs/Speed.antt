@@ -1,7 +1,10 @@
--- The three speed words as plain numbers for a host (document 01, "Bring-up").
-use Rattle.std.specs.Prelude.{ℕ, Bool, not, cond, ◌||◌}
+-- The speed words as plain numbers for a host: the three of some settings (document 01, "Bring-up"), and the table of
+-- usual speeds (document 02, C-14).
+use Rattle.std.specs.Prelude.{ℕ, Bool, not, cond, ◌||◌, slice_get}
+use Rattle.std.specs.Option.{unwrap_or}
 use Rattle.units.specs.declared.Hertz.{Hertz}
 use Rattle.units.specs.Speed.{mode_known, mode_of, frequency_out, cr2_word, trise_word, ccr_word}
+use Rattle.speed_words.specs.Table.{speed_words}
 
 abbrev pub hertz : ℕ → Hertz
 hertz n = record { 0 = n }
@@ -22,3 +25,7 @@ speed_trise pclk1 mode frequency = plain_word mode frequency (trise_word (hertz 
 
 abbrev pub speed_ccr : ℕ → ℕ → ℕ → ℕ
 speed_ccr pclk1 mode frequency = plain_word mode frequency (ccr_word (hertz pclk1) (mode_of mode) (hertz frequency))
+
+-- the word of this entry, or 4,294,967,295 for an index past the end
+abbrev pub speed_table : ℕ → ℕ
+speed_table index = unwrap_or (slice_get speed_words index) 4294967295

@@ -6,7 +6,7 @@ ghost use Rattle.buslist.specs.Refusal.{refusal};
 ghost use Rattle.registers.specs.Contract.{outcome_number};
 ghost use Rattle.engine.specs.Ended.{ended_counts};
 ghost use Rattle.engine.specs.Run.{Runs, HostRuns};
-ghost use Rattle.engine.specs.Speed.{speed_out, speed_cr2, speed_trise, speed_ccr};
+ghost use Rattle.engine.specs.Speed.{speed_out, speed_cr2, speed_trise, speed_ccr, speed_table};
 
 use buslist::BusList;
 use registers::{Bus, Progress, Stop};
@@ -23,7 +23,7 @@ pub struct Counts {
     pub got: usize,
 }
 
-// What stands for a speed word where the settings have none: a number and no Option, since C calls these functions.
+// What stands for a speed word where there is none: a number and no Option, since C calls these functions.
 const NO_WORD: u32 = 4_294_967_295;
 
 // Cause 22, or an unknown mode.
@@ -61,6 +61,16 @@ pub fn speed_ccr(pclk1: u32, mode: u32, frequency: u32) -> u32
         return NO_WORD;
     }
     units::ccr_word(Hertz(pclk1), units::mode_of(mode), Hertz(frequency))
+}
+
+// The CCR word of an entry of the table of usual speeds.
+pub fn speed_table(index: u32) -> u32
+    ensures { result ≡ speed_table index }
+{
+    match speed_words::speed_word(index) {
+        Some(word) => word as u32,
+        None => NO_WORD,
+    }
 }
 
 // The number that document 01 gives an outcome.

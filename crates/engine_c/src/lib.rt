@@ -3,7 +3,7 @@
 
 ghost use Rattle.std.specs.Prelude.{◌≡◌};
 ghost use Rattle.engine.specs.Run.{HostRuns};
-ghost use Rattle.engine.specs.Speed.{speed_cr2, speed_trise, speed_ccr};
+ghost use Rattle.engine.specs.Speed.{speed_cr2, speed_trise, speed_ccr, speed_table};
 
 // The CR2 word of the settings.
 #[unsafe(no_mangle)]
@@ -27,6 +27,14 @@ pub extern "C" fn speed_ccr(pclk1: u32, mode: u32, frequency: u32) -> u32
     ensures { result ≡ speed_ccr pclk1 mode frequency }
 {
     engine::speed_ccr(pclk1, mode, frequency)
+}
+
+// The CCR word of an entry of the table of usual speeds.
+#[unsafe(no_mangle)]
+pub extern "C" fn speed_table(index: u32) -> u32
+    ensures { result ≡ speed_table index }
+{
+    engine::speed_table(index)
 }
 
 // The run for hosts: the answer and the four counts, in the order returned, go to `counts`.

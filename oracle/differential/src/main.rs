@@ -23,8 +23,12 @@ fn main() -> ExitCode {
     let seed = numbers.next().unwrap_or(1);
     let started = Instant::now();
 
-    match speed::compare() {
-        Ok(settings) => println!("speed words: {settings} settings, no difference"),
+    let compared =
+        speed::compare().and_then(|settings| speed::compare_table().map(|words| (settings, words)));
+    match compared {
+        Ok((settings, words)) => println!(
+            "speed words: {settings} settings, and {words} words of the table, no difference"
+        ),
         Err(difference) => {
             println!("speed words differ: {difference}");
             return ExitCode::FAILURE;

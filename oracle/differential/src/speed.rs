@@ -1,4 +1,4 @@
-//! The three speed words against the Rust's `init`, over a dense sweep and its edges.
+//! The three speed words against the Rust's `init`, over a dense sweep and its edges; and the table of usual speeds.
 
 use buslist::Mode;
 
@@ -37,6 +37,42 @@ pub fn compare() -> Result<usize, String> {
         }
     }
     Ok(compared)
+}
+
+/// The table of usual speeds, word by word, against what the Rust's `init` writes: the number of words, or the first
+/// that differs.
+pub fn compare_table() -> Result<u32, String> {
+    // Document 02, C-14.
+    let speeds = [
+        (Mode::Standard, [10, 20, 50, 100]),
+        (Mode::Fast2To1, [125, 200, 250, 400]),
+        (Mode::Fast16To9, [125, 200, 250, 400]),
+    ];
+    let mut index = 0;
+    for mhz in 2..=36 {
+        for (mode, frequencies) in speeds {
+            for khz in frequencies {
+                let [_, _, ccr] = original::speed_words(mhz * 1_000_000, mode, khz * 1000);
+                entry(index, ccr)?;
+                index += 1;
+            }
+        }
+    }
+    for past in [index, index + 1, 1 << 31, u32::MAX] {
+        entry(past, engine::NO_WORD)?;
+    }
+    Ok(index)
+}
+
+fn entry(index: u32, expected: u32) -> Result<(), String> {
+    let found = engine::speed_table(index);
+    if found == expected {
+        Ok(())
+    } else {
+        Err(format!(
+            "entry {index} of the table: expected {expected:x}, engine {found:x}"
+        ))
+    }
 }
 
 /// Every megahertz and its neighbours up to past the chip's clocks, steps between, and the edges of 32 bits.

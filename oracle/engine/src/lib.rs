@@ -19,10 +19,11 @@ mod exported {
         pub fn speed_cr2(pclk1: u32, mode: u32, frequency: u32) -> u32;
         pub fn speed_trise(pclk1: u32, mode: u32, frequency: u32) -> u32;
         pub fn speed_ccr(pclk1: u32, mode: u32, frequency: u32) -> u32;
+        pub fn speed_table(index: u32) -> u32;
     }
 }
 
-/// What stands for a speed word where the settings have none.
+/// What stands for a speed word where there is none.
 pub const NO_WORD: u32 = u32::MAX;
 
 /// Runs a list: the answer, calls ended well, readings used, accesses made, bytes received.
@@ -55,4 +56,10 @@ pub fn speed_words(pclk1: u32, mode: u32, frequency: u32) -> [u32; 3] {
             exported::speed_ccr(pclk1, mode, frequency),
         ]
     }
+}
+
+/// The CCR word of an entry of the table of usual speeds.
+pub fn speed_table(index: u32) -> u32 {
+    // SAFETY: a number in, a number out.
+    unsafe { exported::speed_table(index) }
 }
