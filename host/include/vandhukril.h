@@ -61,7 +61,7 @@ enum vandhukril_code {
     VANDHUKRIL_WRITE_CR2 = 12,
     VANDHUKRIL_WRITE_CCR = 13,
     VANDHUKRIL_WRITE_TRISE = 14,
-    VANDHUKRIL_WRITE_SR1 = 15,
+    VANDHUKRIL_WRITE_SR1 = 15, /* 0 before START, else the word that clears one flag (docs/FORMAT.md) */
     VANDHUKRIL_WRITE_DR = 16
 };
 

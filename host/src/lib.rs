@@ -5,13 +5,15 @@
 //! access, the bytes received, and how the run ended. It is written and proved in Rattle, and linked
 //! here as a static library. This crate adds no meaning to them: [`run`], the words of
 //! [`speed`] and those of [`usual`] are the engine's answers with Rust types around them. What a word
-//! is on the bus ([`speed::on_bus`]) is a formula of this crate.
+//! is on the bus ([`speed::on_bus`]), and which flag an access clears ([`Access::cleared`]), are formulas
+//! of this crate.
 //!
 //! | To do this | use |
 //! |---|---|
 //! | make a bus list | [`BusList`], with [`Settings`] or [`PollingSettings`] |
 //! | run it | [`run`] |
 //! | see what the run did | [`accesses`], [`Report`] |
+//! | see which error flag an access clears | [`Access::cleared`] |
 //! | learn why it did not end well | [`Error`], [`Cause`], [`Refusal`] |
 //! | look at a list, right or wrong | [`BusList::from_bytes`], [`explain`], [`show`] |
 //! | know the speed words of settings, and what a CCR word is on the bus | [`speed`] |
@@ -65,6 +67,6 @@ pub mod usual;
 
 pub use error::{Cause, DoesNotFit, Error, NoAcknowledge, Refusal};
 pub use list::{Address, BusList, Call, Fault, Kind, Operation, Warning, explain, show};
-pub use record::{ACCESS_WORDS, Access, Direction, Register, Report, accesses};
+pub use record::{ACCESS_WORDS, Access, Direction, ErrorFlag, Register, Report, accesses};
 pub use run::{Counts, answer, run};
 pub use settings::{Hertz, ListSettings, Micros, Mode, PollingSettings, Settings};

@@ -60,6 +60,44 @@ impl Register {
     }
 }
 
+/// A flag of SR1 that reports an error, by the weight of its bit.
+#[derive(Clone, Copy, Debug, PartialEq, Eq, Hash)]
+#[repr(u32)]
+pub enum ErrorFlag {
+    /// BERR: a START or STOP in the wrong place.
+    Berr = 1 << 8,
+    /// ARLO: arbitration was lost.
+    Arlo = 1 << 9,
+    /// AF: a missing acknowledge.
+    Af = 1 << 10,
+    /// OVR: an overrun.
+    Ovr = 1 << 11,
+    /// PECERR: a wrong checksum.
+    Pecerr = 1 << 12,
+    /// TIMEOUT: the clock was held low for too long.
+    Timeout = 1 << 14,
+}
+
+impl ErrorFlag {
+    /// All six, in the order of their bits.
+    pub const ALL: [ErrorFlag; 6] = [
+        ErrorFlag::Berr,
+        ErrorFlag::Arlo,
+        ErrorFlag::Af,
+        ErrorFlag::Ovr,
+        ErrorFlag::Pecerr,
+        ErrorFlag::Timeout,
+    ];
+
+    /// The weight of its bit in SR1.
+    pub const fn bit(self) -> u32 {
+        self as u32
+    }
+}
+
+/// The bits of SR1 that a write of 0 clears and a write of 1 leaves: 8 to 12, 14 and 15.
+const WRITE_ZERO_TO_CLEAR: u32 = 0xdf00;
+
 impl Access {
     /// Whether it reads or writes. The codes of reads are below those of writes.
     pub const fn direction(self) -> Direction {
@@ -83,6 +121,24 @@ impl Access {
             14 => Register::Trise,
             _ => return None,
         })
+    }
+
+    /// The one flag that it clears. None for every other access: for the 0 before START too, which clears all.
+    ///
+    /// ```
+    /// use vandhukril::{Access, ErrorFlag};
+    ///
+    /// let access = Access { code: 15, value: 0xd700 };
+    /// assert_eq!(access.cleared(), Some(ErrorFlag::Ovr));
+    /// assert_eq!(Access { code: 15, value: 0 }.cleared(), None);
+    /// ```
+    pub fn cleared(self) -> Option<ErrorFlag> {
+        if (self.direction(), self.register()) != (Direction::Write, Some(Register::Sr1)) {
+            return None;
+        }
+        ErrorFlag::ALL
+            .into_iter()
+            .find(|flag| self.value == WRITE_ZERO_TO_CLEAR & !flag.bit())
     }
 }
 
@@ -219,6 +275,27 @@ mod tests {
             assert_eq!(Access { code, value: 0 }.register(), None);
         }
         assert_eq!(Access { code: 17, value: 1 }.to_string(), "w ? 0001");
+    }
+
+    #[test]
+    fn only_a_write_of_sr1_that_keeps_the_other_flags_clears_one() {
+        let words = [0xde00, 0xdd00, 0xdb00, 0xd700, 0xcf00, 0x9f00];
+        let cleared = words.map(|value| Access { code: 15, value }.cleared());
+        assert_eq!(cleared, ErrorFlag::ALL.map(Some));
+        for (code, value) in [
+            (15, 0xdf00),   // no flag
+            (15, 0xdc00),   // two flags
+            (15, 0),        // every flag
+            (15, 0x5f00),   // bit 15 alone
+            (15, 0x5e00),   // a flag, and bit 15
+            (15, 0xfe00),   // a flag, with bit 13
+            (15, 0x1_de00), // a flag, with a bit above
+            (1, 0xde00),    // a read
+            (11, 0xde00),   // another register
+            (17, 0xde00),   // no register
+        ] {
+            assert_eq!(Access { code, value }.cleared(), None);
+        }
     }
 
     #[test]

@@ -5,7 +5,9 @@ mod common;
 use std::thread;
 
 use common::{OLD_BYTE, OLD_WORD, READY, Ran, every_kind, run_with, settings};
-use vandhukril::{ACCESS_WORDS, Address, BusList, Hertz, Micros, Mode, Settings, run};
+use vandhukril::{
+    ACCESS_WORDS, Address, BusList, ErrorFlag, Hertz, Micros, Mode, Settings, accesses, run,
+};
 
 /// More than the list of every kind needs.
 const READINGS: usize = 500;
@@ -296,10 +298,9 @@ fn an_error_flag_at_every_reading() {
     assert_eq!(well.answer(), 0);
     let mut seen = [0; 11];
     for place in 0..well.counts().readings {
-        // BERR, ARLO, AF, OVR, PECERR, TIMEOUT
-        for flag in [0x100, 0x200, 0x400, 0x800, 0x1000, 0x4000] {
+        for flag in ErrorFlag::ALL {
             let mut readings = [READY; READINGS];
-            readings[place] |= flag;
+            readings[place] |= flag.bit();
             let ran = run_with(&bytes, &readings, received_length, WORDS);
             seen[ran.answer() as usize] += 1;
             // Up to that reading the run is the one without the flag.
@@ -313,7 +314,12 @@ fn an_error_flag_at_every_reading() {
             let reads = well_record[..same]
                 .chunks_exact(ACCESS_WORDS)
                 .filter(|pair| pair[0] <= 5);
-            assert!(reads.count() >= place, "reading {place}, flag {flag:#x}");
+            assert!(reads.count() >= place, "reading {place}, flag {flag:?}");
+            // SR1 is written 0 before START, or to clear this flag.
+            for written in accesses(record).filter(|access| access.code == 15) {
+                let cleared = written.cleared();
+                assert!(written.value == 0 || cleared == Some(flag), "{written}");
+            }
         }
     }
     // ARLO, OVR, the three sources of AF, TIMEOUT, BERR and PECERR each end a run; 0 where a flag plays no part.

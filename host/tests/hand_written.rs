@@ -9,7 +9,7 @@ use std::fs;
 use std::path::Path;
 
 use common::{refusal, run_with};
-use vandhukril::explain;
+use vandhukril::{Access, ErrorFlag, accesses, explain};
 
 #[derive(Default)]
 struct Case {
@@ -121,5 +121,27 @@ fn every_hand_written_run() {
             "{}",
             case.name
         );
+    }
+}
+
+/// Each of the six words is there, and clears a flag that the SR1 read right before it shows. Any other SR1 write is 0.
+#[test]
+fn every_clear_of_the_hand_written_runs() {
+    let mut cleared = Vec::new();
+    for case in cases("runs", 2) {
+        let all: Vec<Access> = accesses(&case.accesses).collect();
+        for pair in all.windows(2).filter(|pair| pair[1].code == 15) {
+            let [before, written] = [pair[0], pair[1]];
+            let Some(flag) = written.cleared() else {
+                assert_eq!(written.value, 0, "{}", case.name);
+                continue;
+            };
+            assert_eq!(before.code, 1, "{}", case.name);
+            assert_ne!(before.value & flag.bit(), 0, "{}", case.name);
+            cleared.push(flag);
+        }
+    }
+    for flag in ErrorFlag::ALL {
+        assert!(cleared.contains(&flag), "{flag:?} is never cleared");
     }
 }

@@ -1,14 +1,16 @@
 -- Document 01's proved examples hold.
 -- Assumes nothing.
 use Rattle.std.specs.Prelude.{refl}
-use Rattle.registers.specs.Machine.{since, check_word, poll_word}
+use Rattle.registers.specs.Word.{has, without_bit}
+use Rattle.registers.specs.Access.{flag_of, clear_word}
+use Rattle.registers.specs.Machine.{since, check_word, after_check, poll_word, after_poll}
 use Rattle.buslist.specs.Meaning.{engine_of}
 use Rattle.buslist.specs.Combined.{gather, joined}
 use Rattle.demands.specs.Compare.{reduced_operations, reduced}
 use Rattle.demands.specs.Examples.{first_run, printed, Table, computed, ran}
 
 pub table : Table
-unfolding computed ran first_run printed since check_word poll_word reduced reduced_operations joined gather engine_of
+unfolding computed ran first_run printed since has without_bit flag_of clear_word check_word after_check poll_word after_poll reduced reduced_operations joined gather engine_of
 table =
     record {
       p1_record = refl;
@@ -27,5 +29,7 @@ table =
       p8_in = λ s w h. refl;
       p9_polling = λ n. refl;
       p9_blocking = λ n. refl;
+      p9_polling_writes = λ n p. refl;
+      p9_blocking_writes = λ s h n ready later. refl;
       p10 = refl;
     }

@@ -11,4 +11,5 @@ pub mod Corollaries
 pub mod Witness
 pub mod ByWidth
 pub mod SpeedTable
+pub mod Clearing
 pub mod Examples

@@ -1,5 +1,5 @@
--- Document 01's proved examples, in one table over the meanings.
-use Rattle.std.specs.Prelude.{ℕ, ◌≡◌}
+-- Document 01's proved examples, in one table over the meanings; of P9 also the words written, by document 02.
+use Rattle.std.specs.Prelude.{ℕ, ◌≡◌, Bool}
 use mathlib.Core.List.{List, [], ◌∷◌, flat_map, flatten}
 use Rattle.buslist.specs.declared.Address.{Address}
 use Rattle.buslist.specs.Bytes.{half, word}
@@ -17,9 +17,9 @@ use Rattle.registers.specs.declared.Source.{Source}
 use Rattle.registers.specs.declared.BusError.{BusError}
 use Rattle.std.specs.Prelude.{Some}
 use Rattle.registers.specs.declared.Awaited.{Awaited}
-use Rattle.registers.specs.Word.{has, with_bit, without_bit}
-use Rattle.registers.specs.Access.{cut, clear_word, record_of, reads, received_of, number}
-use Rattle.registers.specs.Machine.{Step, Handler, check_word, after_check, poll_word, next, handle, exec, exec_on, exec_full, perform, no_room, after_call, after_bring_up, flat, whole_run, run as machine_run}
+use Rattle.registers.specs.Word.{has, with_bit, without_bit, BERR}
+use Rattle.registers.specs.Access.{wSR1, cut, flag_of, clear_word, record_of, reads, received_of, number}
+use Rattle.registers.specs.Machine.{Step, Handler, check_word, after_check, poll_word, after_poll, next, handle, exec, exec_on, exec_full, perform, no_room, after_call, after_bring_up, flat, whole_run, run as machine_run}
 use Rattle.i2c.specs.Polling.{write_bytes, last_read, turn, turn_write, turn_read, transfer, polling_steps}
 use Rattle.calls.specs.Calls.{early, operations_steps, performed, steps_of}
 use Rattle.engine.specs.Run.{Result, run, result, accepted_run, counts_of}
@@ -89,9 +89,12 @@ pub record Table : Type 0 where
   -- start 4,294,967,290, now 4: limit 10 out, 11 not: every timed wait, whatever it does with an error
   pub p8_out : (s : Setup) (w : Awaited) (h : Handler) → next s (Step.late w 10 h 4294967290) 4 ≡ handle s h BusError.Timeout
   pub p8_in : (s : Setup) (w : Awaited) (h : Handler) → next s (Step.late w 11 h 4294967290) 4 ≡ Step.poll w 11 h 4294967290 ∷ []
-  -- SR1 0C00 hex: polling Overrun, blocking NoAcknowledge
+  -- SR1 0C00 hex: polling Overrun, blocking NoAcknowledge; and the words written, D700 and DB00 (document 02, C-15)
   pub p9_polling : (n : Source) → check_word n 0x0c00 ≡ Some BusError.Overrun
   pub p9_blocking : (n : Source) → poll_word n 0x0c00 ≡ Some (BusError.NoAcknowledge n)
+  pub p9_polling_writes : (n : Source) (p : List Step) → after_check (check_word n 0x0c00) (has BERR 0x0c00) p ≡ Step.put wSR1 0xd700 ∷ Step.fail BusError.Overrun ∷ []
+  pub p9_blocking_writes : (s : Setup) (h : Handler) (n : Source) (ready : Bool) (later : Step)
+      → after_poll s h (poll_word n 0x0c00) ready later ≡ Step.put wSR1 0xdb00 ∷ handle s h (BusError.NoAcknowledge n)
   -- writes 1 and 2 reduce as one write of both
   pub p10 : reduced (call_to 3 (write (1 ∷ []) ∷ write (2 ∷ []) ∷ [])) ≡ reduced (call_to 0 (write (1 ∷ 2 ∷ []) ∷ []))
 
@@ -102,5 +105,5 @@ computed l rx = refusal l rx
 
 -- names all that a polling run computes by
 unfoldable pub ran : List ℕ → List ℕ → ℕ → ℕ → Result
-unfolding run result accepted_run counts_of setup_of steps_of operations_steps performed engine_of early operation_of address_of has with_bit without_bit cut clear_word record_of reads received_of number check_word after_check next exec exec_on exec_full perform no_room after_call after_bring_up machine_run whole_run flatten handle write_bytes last_read turn turn_write turn_read transfer polling_steps
+unfolding run result accepted_run counts_of setup_of steps_of operations_steps performed engine_of early operation_of address_of has with_bit without_bit cut flag_of clear_word record_of reads received_of number check_word after_check next exec exec_on exec_full perform no_room after_call after_bring_up machine_run whole_run flatten handle write_bytes last_read turn turn_write turn_read transfer polling_steps
 ran l rs rx words = run l rs rx words

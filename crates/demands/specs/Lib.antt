@@ -5,3 +5,4 @@ pub mod Examples
 pub mod ByKind
 pub mod ByWidth
 pub mod SpeedTable
+pub mod Clearing

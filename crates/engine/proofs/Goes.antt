@@ -5,18 +5,18 @@ use native.Mathlib.Omega.{arith}
 use native.Mathlib.Numerals.{one-add}
 use native.Mathlib.Nat.{zero-add, sub-zero, suc-sub-suc}
 use mathlib.Core.Bool.{Bool, true, false, cond}
-use mathlib.Core.Path.{◌≡◌, refl, ◌∙◌}
+use mathlib.Core.Path.{◌≡◌, refl}
 use mathlib.Core.List.{List, [], ◌∷◌, ◌++◌, map, flatten, append-nil, append_assoc}
 use lib.ListN.{length, drop}
 use Rattle.units.specs.declared.Setup.{Setup}
-use Rattle.buslist.specs.Meaning.{Operation, write, read, Call}
+use Rattle.buslist.specs.Meaning.{Call}
 use Rattle.registers.specs.declared.Source.{Source}
 use Rattle.registers.specs.declared.BusError.{BusError}
 use Rattle.registers.specs.declared.Entry.{Entry}
 use Rattle.registers.specs.Access.{Access, Shortage, Ending, is_read, cut, reads, number}
 use Rattle.registers.specs.Machine.{Step, Act, access, next, perform, no_room, exec, exec_on, exec_full, bring_up, Run, run, after_call, flat, after_bring_up, whole_run}
 use Rattle.calls.specs.Calls.{steps_of}
-use Rattle.engine.proofs.Plan.{Weights, total, total_append, after-access, bring_up_none, times, reads_together, steps_total}
+use Rattle.engine.proofs.Plan.{Weights, total, total_append, after-access, bring_up_none, calls_none}
 
 -- steps with this room and these readings log so and end so
 pub data Goes (s : Setup) : List Step → ℕ → List ℕ → List Entry → Ending → Type 0 where
@@ -30,14 +30,14 @@ pub data Goes (s : Setup) : List Step → ℕ → List ℕ → List Entry → En
       → Goes s (next s i (cut r w) ++ p) n rs l e → Goes s (i ∷ p) (suc n) (w ∷ rs) (record { code = r; value = cut r w } ∷ l) e
 
 -- a write with a read's code, or a read with a write's, weighs 1
-abbrev P : ℕ → ℕ
-P code = cond (is_read code) 1 0
+abbrev P : ℕ → ℕ → ℕ
+P code value = cond (is_read code) 1 0
 
 abbrev G : ℕ → ℕ
 G code = cond (is_read code) 0 1
 
 abbrev code_weights : Weights P G
-code_weights = record { cr1 = refl; cr2 = refl; ccr = refl; trise = refl; sr1 = refl; dr = refl; get_sr1 = refl; get_sr2 = refl; get_cr1 = refl; get_cyc = refl }
+code_weights = record { cr1 = λ v. refl; cr2 = λ v. refl; ccr = λ v. refl; trise = λ v. refl; sr1 = refl; dr = λ v. refl; get_sr1 = refl; get_sr2 = refl; get_cr1 = refl; get_cyc = refl }
 
 abbrev misused : List Step → ℕ
 misused p = total P G code_weights p
@@ -66,13 +66,13 @@ exec_goes s (suc n) (i ∷ p) rs h = go (access i) refl rs (exec_goes s n)
         → let r = perform a (λ v. next s i v ++ p) rs (exec s n) in Goes s (i ∷ p) (suc n) rs r.log r.ending
     go (Act.halt e) k rs ih = halted e k
     go (Act.make (Access.write r v)) k rs ih =
-        let f = rw k at (after-access P G code_weights s i p v) in
+        let f = rw k at (after-access P G code_weights (λ e. refl) s i p v) in
         wrote r v k (write-code (is_read r) (omega arith)) (ih (next s i v ++ p) rs (omega arith))
     go (Act.make (Access.read r)) k [] ih =
-        let f = rw k at (after-access P G code_weights s i p 0) in
+        let f = rw k at (after-access P G code_weights (λ e. refl) s i p 0) in
         lacks r k (read-code (is_read r) (omega arith))
     go (Act.make (Access.read r)) k (w ∷ rs) ih =
-        let f = rw k at (after-access P G code_weights s i p (cut r w)) in
+        let f = rw k at (after-access P G code_weights (λ e. refl) s i p (cut r w)) in
         took r w k (read-code (is_read r) (omega arith)) (ih (next s i (cut r w) ++ p) rs (omega arith))
 
 module _ {s : Setup} where
@@ -126,25 +126,6 @@ run_goes s (c ∷ cs) n rs h =
     go l (Ending.failed e) g r k = rw append-nil (stops g (λ z. omega (arith, error_number e)) (flatten cs))
     go l (Ending.cut_short c) g r k = rw append-nil (stops g (λ z. omega (arith, shortage_number c)) (flatten cs))
 
--- no call misuses a code
-times_none : (n : ℕ) → times P G code_weights n ≡ 0
-unfolding times
-times_none zero = refl
-times_none (suc n) = omega (arith, times_none n)
-
-operations_none : (os : List Operation) → reads_together P G code_weights os ≡ 0
-unfolding reads_together
-operations_none [] = refl
-operations_none (write bytes ∷ os) = omega (arith, operations_none os)
-operations_none (read n ∷ os) = omega (arith, times_none n, operations_none os)
-
-calls_none : (s : Setup) (cs : List Call) → misused (flatten (map (steps_of s) cs)) ≡ 0
-unfolding flatten total
-calls_none s [] = refl
-calls_none s (c ∷ cs) =
-    total_append P G code_weights (steps_of s c) (flatten (map (steps_of s) cs))
-    ∙ omega (arith, steps_total P G code_weights s c, operations_none c.operations, calls_none s cs)
-
 -- all steps of a whole run
 abbrev pub all_steps : Setup → List Call → List Step
 all_steps s cs = bring_up s ++ flatten (map (steps_of s) cs)
@@ -156,7 +137,7 @@ unfolding whole_run after_bring_up run after_call flatten
 whole_goes s cs n rs =
     let m = total_append P G code_weights (bring_up s) (flatten (map (steps_of s) cs)) in
     go (exec s n (bring_up s) rs).log (exec s n (bring_up s) rs).ending
-    (run_goes s (bring_up s ∷ map (steps_of s) cs) n rs (omega (arith, bring_up_none P G code_weights s, calls_none s cs)))
+    (run_goes s (bring_up s ∷ map (steps_of s) cs) n rs (omega (arith, bring_up_none P G code_weights s, calls_none P G code_weights refl s cs)))
   where
     go : (l : List Entry) (e : Ending) → let r = run s (map (steps_of s) cs) (n - length l) (drop (reads l) rs) in
         Goes s (all_steps s cs) n rs (flatten (after_call l e r).begun) (after_call l e r).ending

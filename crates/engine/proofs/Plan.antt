@@ -1,11 +1,11 @@
--- What the steps of a call weigh together, where a write access and a read access weigh by their code.
+-- What the steps of a call weigh together, where a write weighs by its code and value, and a read by its code.
 -- Assumes nothing.
 use Prim.Native.Nat.{ℕ, zero, suc, ◌+◌}
 use native.Mathlib.Omega.{arith}
 use native.Mathlib.Nat.{zero-add, suc-add}
 use mathlib.Core.Bool.{Bool, true, false, cond}
 use mathlib.Core.Path.{◌≡◌, refl, ◌∙◌}
-use mathlib.Core.List.{List, [], ◌∷◌, ◌++◌}
+use mathlib.Core.List.{List, [], ◌∷◌, ◌++◌, map, flatten}
 use lib.Dec.{eqb, leb}
 use Rattle.units.specs.declared.Setup.{Setup}
 use Rattle.buslist.specs.declared.Address.{Address}
@@ -16,32 +16,39 @@ use Rattle.i2c.specs.Polling.{prepare_write, prepare_read, write_bytes, read_byt
 use Rattle.blocking_write.specs.Write.{later_bytes, write_wait, write_bytes_and_wait, write_without_stop}
 use Rattle.blocking.specs.Blocking.{receive_bytes, last_three, read_arm, read_steps, done_last, close_after, blocking_steps, operation_steps as blocking_operation}
 use Rattle.calls.specs.Calls.{early, operations_steps, performed, steps_of}
+use Rattle.registers.specs.declared.Source.{Source}
 use Rattle.registers.specs.declared.BusError.{BusError}
 use Rattle.std.specs.Prelude.{Option, Some, None}
 use Rattle.registers.specs.declared.Awaited.{Awaited}
 use Rattle.registers.specs.Word.{has, BTF, BERR, STOP, MSL, BUSY}
-use Rattle.registers.specs.Access.{SR1, SR2, CR1, DR, CYC, wCR1, wCR2, wCCR, wTRISE, wSR1, wDR, Access}
-use Rattle.registers.specs.Machine.{Step, Handler, Act, access, next, check_word, after_check, poll_error, poll_ready, after_poll, handle, start, start_again, stop_for, since, bring_up}
+use Rattle.registers.specs.Access.{SR1, SR2, CR1, DR, CYC, wCR1, wCR2, wCCR, wTRISE, wSR1, wDR, flag_of, clear_word, Access, code_of}
+use Rattle.registers.specs.Machine.{Step, Handler, Act, clear, access, next, check_word, after_check, poll_word, poll_error, polled_register, poll_ready, after_poll, handle, start, start_again, stop_for, since, bring_up}
+use Rattle.registers.proofs.FlagOf.{check_flag, poll_flag}
 
--- weights of accesses by their code, where no write of the engines weighs, and of the reads only DR's
-pub record Weights (P G : ℕ → ℕ) : Type 0 where
-  pub cr1 : P wCR1 ≡ 0
-  pub cr2 : P wCR2 ≡ 0
-  pub ccr : P wCCR ≡ 0
-  pub trise : P wTRISE ≡ 0
-  pub sr1 : P wSR1 ≡ 0
-  pub dr : P wDR ≡ 0
+-- weights of accesses, where no write of the engines weighs but a clear of a flag, and of the reads only DR's
+pub record Weights (P : ℕ → ℕ → ℕ) (G : ℕ → ℕ) : Type 0 where
+  pub cr1 : (v : ℕ) → P wCR1 v ≡ 0
+  pub cr2 : (v : ℕ) → P wCR2 v ≡ 0
+  pub ccr : (v : ℕ) → P wCCR v ≡ 0
+  pub trise : (v : ℕ) → P wTRISE v ≡ 0
+  pub sr1 : P wSR1 0 ≡ 0
+  pub dr : (v : ℕ) → P wDR v ≡ 0
   pub get_sr1 : G SR1 ≡ 0
   pub get_sr2 : G SR2 ≡ 0
   pub get_cr1 : G CR1 ≡ 0
   pub get_cyc : G CYC ≡ 0
 
-module _ (P G : ℕ → ℕ) (w : Weights P G) where
+-- the code of the access that a step makes; 0 for none
+abbrev pub code_made : Act → ℕ
+code_made (Act.halt e) = 0
+code_made (Act.make a) = code_of a
+
+module _ (P : ℕ → ℕ → ℕ) (G : ℕ → ℕ) (w : Weights P G) where
   -- a step's weight
   abbrev pub weight : Step → ℕ
   weight (Step.get r) = G r
   weight (Step.fail e) = 0
-  weight (Step.put r v) = P r
+  weight (Step.put r v) = P r v
   weight (Step.modify on off) = 0
   weight Step.stop_clear = 0
   weight (Step.check f n) = 0
@@ -64,7 +71,7 @@ module _ (P G : ℕ → ℕ) (w : Weights P G) where
   total_append [] q = omega arith
   total_append (i ∷ p) q = omega (arith, total_append p q)
 
-  -- what takes a step's place plans no DR read
+  -- what takes a step's place weighs nothing, but for a clear
   pick_none : (t : Bool) (p q : List Step) → total p ≡ 0 → total q ≡ 0 → total (cond t p q) ≡ 0
   pick_none true p q h k = h
   pick_none false p q h k = k
@@ -94,35 +101,47 @@ module _ (P G : ℕ → ℕ) (w : Weights P G) where
   handle_none s Handler.stops e = total_append (stop_for e) (Step.fail e ∷ []) ∙ rw (stop_none e)
   handle_none s (Handler.resets n) e = omega (arith, again_none s n e)
 
-  check_none : (f : Option BusError) (t : Bool) (p : List Step) → total p ≡ 0 → total (after_check f t p) ≡ 0
-  unfolding after_check total
-  check_none (Some e) t p h = omega arith
-  check_none None true p h = omega arith
-  check_none None false p h = h
+  -- steps that take the place of one whose access had this code and value: they weigh nothing, but for the clear of a flag that an SR1 read shows
+  pub data Follows (r v : ℕ) : List Step → Type 0 where
+    weightless : {p : List Step} → total p ≡ 0 → Follows r v p
+    clearing : {p : List Step} (e : BusError) → r ≡ SR1 → has (flag_of e) v ≡ true → total p ≡ 0 → Follows r v (clear e ∷ p)
 
-  poll_none : (s : Setup) (h : Handler) (f : Option BusError) (t : Bool) (i : Step) → weight i ≡ 0 → total (after_poll s h f t i) ≡ 0
-  unfolding after_poll total
-  poll_none s h (Some e) t i k = omega (arith, handle_none s h e)
-  poll_none s h None true i k = omega arith
-  poll_none s h None false i k = omega arith
+  check_follows : (n : Source) (v : ℕ) (p : List Step) → total p ≡ 0 → Follows SR1 v (after_check (check_word n v) (has BERR v) p)
+  unfolding after_check flag_of total
+  check_follows n v p z = go (check_word n v) refl (has BERR v) refl
+    where
+      go : (f : Option BusError) → check_word n v ≡ f → (t : Bool) → has BERR v ≡ t → Follows SR1 v (after_check f t p)
+      go (Some e) h t k = clearing e refl (check_flag v n e h) (omega arith)
+      go None h true k = clearing BusError.Bus refl k z
+      go None h false k = weightless z
 
-  next_none : (s : Setup) (i : Step) (v : ℕ) → total (next s i v) ≡ 0
+  poll_follows : (s : Setup) (h : Handler) (a : Awaited) (v : ℕ) (i : Step) → weight i ≡ 0
+      → Follows (polled_register a) v (after_poll s h (poll_error a v) (poll_ready a v) i)
+  unfolding after_poll poll_error poll_ready total
+  poll_follows s h (Awaited.Flag f n) v i z = go (poll_word n v) refl (has f v)
+    where
+      go : (c : Option BusError) → poll_word n v ≡ c → (t : Bool) → Follows SR1 v (after_poll s h c t i)
+      go (Some e) k t = clearing e refl (poll_flag v n e k) (handle_none s h e)
+      go None k t = weightless (pick_none t [] (i ∷ []) refl (omega arith))
+  poll_follows s h Awaited.Stop v i z = weightless (pick_none (poll_ready Awaited.Stop v) [] (i ∷ []) refl (omega arith))
+
+  pub next_follows : (s : Setup) (i : Step) (v : ℕ) → Follows (code_made (access i)) v (next s i v)
   unfolding next total
-  next_none s (Step.fail e) v = omega arith
-  next_none s (Step.put r w) v = omega arith
-  next_none s (Step.get r) v = omega arith
-  next_none s (Step.modify on off) v = omega arith
-  next_none s Step.stop_clear v = pick_none (has STOP v) _ _ refl refl
-  next_none s (Step.check f n) v = check_none (check_word n v) (has BERR v) _ (pick_none (has f v) _ _ refl refl)
-  next_none s Step.check_master v = check_none _ (has BERR v) _ refl
-  next_none s Step.checked_master v = pick_none (has MSL v) _ _ refl (pick_none (has BUSY v) _ _ refl refl)
-  next_none s (Step.check_twice f n) v = check_none (check_word n v) (has BERR v) _ refl
-  next_none s (Step.checked_twice f n) v = pick_none (has f v) _ _ refl refl
-  next_none s (Step.flag f) v = pick_none (has f v) _ _ refl refl
-  next_none s Step.master v = pick_none (has MSL v) _ _ refl (pick_none (has BUSY v) _ _ refl refl)
-  next_none s (Step.timed w l h) v = omega arith
-  next_none s (Step.poll w l h t) v = poll_none s h (poll_error w v) (poll_ready w v) _ refl
-  next_none s (Step.late w l h t) v = pick_none (leb l (since t v)) _ _ (handle_none s h BusError.Timeout) refl
+  next_follows s (Step.fail e) v = weightless refl
+  next_follows s (Step.put r w) v = weightless refl
+  next_follows s (Step.get r) v = weightless refl
+  next_follows s (Step.modify on off) v = weightless (omega arith)
+  next_follows s Step.stop_clear v = weightless (pick_none (has STOP v) _ _ refl refl)
+  next_follows s (Step.check f n) v = check_follows n v _ (pick_none (has f v) _ _ refl refl)
+  next_follows s Step.check_master v = check_follows Source.Unknown v _ refl
+  next_follows s Step.checked_master v = weightless (pick_none (has MSL v) _ _ refl (pick_none (has BUSY v) _ _ refl refl))
+  next_follows s (Step.check_twice f n) v = check_follows n v _ refl
+  next_follows s (Step.checked_twice f n) v = weightless (pick_none (has f v) _ _ refl refl)
+  next_follows s (Step.flag f) v = weightless (pick_none (has f v) _ _ refl refl)
+  next_follows s Step.master v = weightless (pick_none (has MSL v) _ _ refl (pick_none (has BUSY v) _ _ refl refl))
+  next_follows s (Step.timed a l h) v = weightless refl
+  next_follows s (Step.poll a l h t) v = poll_follows s h a v _ refl
+  next_follows s (Step.late a l h t) v = weightless (pick_none (leb l (since t v)) _ _ (handle_none s h BusError.Timeout) refl)
 
   -- the weight of n DR reads, of an operation, and of operations together
   unfoldable pub times : ℕ → ℕ
@@ -305,7 +324,7 @@ module _ (P G : ℕ → ℕ) (w : Weights P G) where
   abbrev pub access_weight : Act → ℕ
   access_weight (Act.halt e) = 0
   access_weight (Act.make (Access.read r)) = G r
-  access_weight (Act.make (Access.write r v)) = P r
+  access_weight (Act.make (Access.write r v)) = P r v
 
   pub access_total : (i : Step) → access_weight (access i) ≡ weight i
   access_total (Step.fail e) = omega arith
@@ -325,11 +344,38 @@ module _ (P G : ℕ → ℕ) (w : Weights P G) where
   access_total (Step.poll Awaited.Stop l h t) = omega arith
   access_total (Step.late a l h t) = omega arith
 
-  -- what is left to do after an access, with the access
-  pub after-access : (s : Setup) (i : Step) (p : List Step) (v : ℕ) → access_weight (access i) + total (next s i v ++ p) ≡ total (i ∷ p)
+  -- where clears weigh nothing, what takes a step's place weighs nothing
+  abbrev pub ClearsWeighNothing : Type 0
+  ClearsWeighNothing = (e : BusError) → P wSR1 (clear_word e) ≡ 0
+
+  follows_none : {r v : ℕ} {p : List Step} → ClearsWeighNothing → Follows r v p → total p ≡ 0
   unfolding total
-  after-access s i p v = omega (arith, access_total i, total_append (next s i v) p, next_none s i v)
+  follows_none c (weightless z) = z
+  follows_none c (clearing e r h z) = omega (arith, c e, z)
+
+  -- what is left to do after an access, with the access
+  pub after-access : ClearsWeighNothing → (s : Setup) (i : Step) (p : List Step) (v : ℕ) → access_weight (access i) + total (next s i v ++ p) ≡ total (i ∷ p)
+  unfolding total
+  after-access c s i p v = omega (arith, access_total i, total_append (next s i v) p, follows_none c (next_follows s i v))
 
   pub bring_up_none : (s : Setup) → total (bring_up s) ≡ 0
   unfolding total
   bring_up_none s = omega arith
+
+  -- where a DR read weighs nothing, no call as it is planned weighs anything: no clear is planned
+  times_none : G DR ≡ 0 → (n : ℕ) → times n ≡ 0
+  unfolding times
+  times_none d zero = refl
+  times_none d (suc n) = omega (arith, d, times_none d n)
+
+  operations_none : G DR ≡ 0 → (os : List Operation) → reads_together os ≡ 0
+  unfolding reads_together
+  operations_none d [] = refl
+  operations_none d (write bytes ∷ os) = omega (arith, operations_none d os)
+  operations_none d (read n ∷ os) = omega (arith, times_none d n, operations_none d os)
+
+  pub calls_none : G DR ≡ 0 → (s : Setup) (cs : List Call) → total (flatten (map (steps_of s) cs)) ≡ 0
+  unfolding flatten total
+  calls_none d s [] = refl
+  calls_none d s (c ∷ cs) =
+      total_append (steps_of s c) (flatten (map (steps_of s) cs)) ∙ omega (arith, steps_total s c, operations_none d c.operations, calls_none d s cs)

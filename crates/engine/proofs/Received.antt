@@ -21,17 +21,20 @@ use Rattle.engine.proofs.Plan.{Weights, total, total_append, after-access, bring
 use Rattle.engine.proofs.Goes.{Goes, done, halted, full, lacks, wrote, took, whole_goes}
 
 -- an access with DR's read code weighs 1
-abbrev pub D : ℕ → ℕ
-D code = cond (is_data code) 1 0
+abbrev pub G : ℕ → ℕ
+G code = cond (is_data code) 1 0
 
-abbrev pub data_weights : Weights D D
-data_weights = record { cr1 = refl; cr2 = refl; ccr = refl; trise = refl; sr1 = refl; dr = refl; get_sr1 = refl; get_sr2 = refl; get_cr1 = refl; get_cyc = refl }
+abbrev pub P : ℕ → ℕ → ℕ
+P code value = G code
+
+abbrev pub data_weights : Weights P G
+data_weights = record { cr1 = λ v. refl; cr2 = λ v. refl; ccr = λ v. refl; trise = λ v. refl; sr1 = refl; dr = λ v. refl; get_sr1 = refl; get_sr2 = refl; get_cr1 = refl; get_cyc = refl }
 
 -- the DR reads that steps plan
 abbrev planned : List Step → ℕ
-planned p = total D D data_weights p
+planned p = total P G data_weights p
 
-times_is : (n : ℕ) → times D D data_weights n ≡ n
+times_is : (n : ℕ) → times P G data_weights n ≡ n
 unfolding times
 times_is zero = refl
 times_is (suc n) = omega (arith, times_is n)
@@ -52,20 +55,20 @@ goes_received (halted e a) = omega arith
 goes_received (full a k) = omega arith
 goes_received (lacks r a t) = omega arith
 goes_received {s} (wrote {i} {p} {l} r v a t g) =
-    omega (arith, received-entry (record { code = r; value = v }) l, goes_received g, rw a at (after-access D D data_weights s i p v))
+    omega (arith, received-entry (record { code = r; value = v }) l, goes_received g, rw a at (after-access P G data_weights (λ e. refl) s i p v))
 goes_received {s} (took {i} {p} {l} r w a t g) =
-    omega (arith, received-entry (record { code = r; value = cut r w }) l, goes_received g, rw a at (after-access D D data_weights s i p (cut r w)))
+    omega (arith, received-entry (record { code = r; value = cut r w }) l, goes_received g, rw a at (after-access P G data_weights (λ e. refl) s i p (cut r w)))
 
 -- Accepted lists
 
 module _ (l : List ℕ) (rx : ℕ) (ok : refusal l rx ≡ 0) where
-  entry-reads : (o : OperationEntry) → (o.direction ≡ 0) ⊎ (o.direction ≡ 1) → reads_in D D data_weights (operation_of l o) ≡ received o
+  entry-reads : (o : OperationEntry) → (o.direction ≡ 0) ⊎ (o.direction ≡ 1) → reads_in P G data_weights (operation_of l o) ≡ received o
   unfolding received
   entry-reads o d =
       ⊎_elim (λ (e : o.direction ≡ 0). rw (operation_write l o e, e)) (λ (e : o.direction ≡ 1). rw (operation_read l o e, e, times_is)) d
 
   entries-reads : (j n : ℕ) → j + n ≤ operation_count l
-      → reads_together D D data_weights (map (operation_of l) (entries (operation_at l) j n)) ≡ all_received (entries (operation_at l) j n)
+      → reads_together P G data_weights (map (operation_of l) (entries (operation_at l) j n)) ≡ all_received (entries (operation_at l) j n)
   unfolding entries reads_together all_received
   entries-reads j zero h = refl
   entries-reads j (suc n) h =
@@ -76,10 +79,10 @@ module _ (l : List ℕ) (rx : ℕ) (ok : refusal l rx ≡ 0) where
   unfolding entries flatten total calls-received
   calls_planned s k zero h = refl
   calls_planned s k (suc n) h =
-      total_append D D data_weights (steps_of s (call_of l (call_at l k))) _
+      total_append P G data_weights (steps_of s (call_of l (call_at l k))) _
       ∙ omega (
         arith,
-        steps_total D D data_weights s (call_of l (call_at l k)),
+        steps_total P G data_weights s (call_of l (call_at l k)),
         entries-reads (call_at l k).first (call_at l k).count (call_within l rx ok k (omega arith)),
         calls_planned s (k + 1) n (omega arith),
       )
@@ -91,8 +94,8 @@ module _ (l : List ℕ) (rx : ℕ) (ok : refusal l rx ≡ 0) where
       omega (
         arith,
         goes_received (whole_goes s (calls_of l) room rs),
-        total_append D D data_weights (bring_up s) (flatten (map (steps_of s) (calls_of l))),
-        bring_up_none D D data_weights s,
+        total_append P G data_weights (bring_up s) (flatten (map (steps_of s) (calls_of l))),
+        bring_up_none P G data_weights s,
         calls_planned s 0 (call_count l) (omega arith),
         calls-room l rx ok,
       )

@@ -4,6 +4,7 @@ use Rattle.registers.specs.declared.Source.{Source}
 use Rattle.registers.specs.declared.BusError.{BusError}
 use Rattle.registers.specs.declared.Cut.{Cut}
 use Rattle.registers.specs.declared.Entry.{Entry}
+use Rattle.registers.specs.Word.{without_bit, BERR, ARLO, AF, OVR, PECERR, TIMEOUT, WRITE_ZERO_TO_CLEAR}
 
 -- the codes of reads
 abbrev pub SR1 : ℕ
@@ -56,9 +57,18 @@ cut code reading = cond (eqb code CYC) (reading % 2 ^ 32) (reading % 2 ^ 16)
 abbrev pub low_byte : ℕ → ℕ
 low_byte value = value % 256
 
--- the word that clears an SR1 flag, by the error that the flag reports: a field write starts from 0
+-- the SR1 flag that reports an error
+unfoldable pub flag_of : BusError → ℕ
+flag_of BusError.Overrun = OVR
+flag_of (BusError.NoAcknowledge n) = AF
+flag_of BusError.Timeout = TIMEOUT
+flag_of BusError.Bus = BERR
+flag_of BusError.Crc = PECERR
+flag_of BusError.ArbitrationLoss = ARLO
+
+-- the word that clears the flag of an error: a field write of SR1 starts with every write-zero-to-clear bit set (document 02, C-15)
 unfoldable pub clear_word : BusError → ℕ
-clear_word e = 0
+clear_word e = without_bit (flag_of e) WRITE_ZERO_TO_CLEAR
 
 -- the words of a record entry
 abbrev pub entry_words : Entry → List ℕ

@@ -43,6 +43,13 @@ PECERR = bit 12
 abbrev pub TIMEOUT : ℕ
 TIMEOUT = bit 14
 
+abbrev pub SMBALERT : ℕ
+SMBALERT = bit 15
+
+-- the write-zero-to-clear bits of SR1, 8 to 12, 14 and 15: a 0 written clears the bit, a 1 leaves it
+abbrev pub WRITE_ZERO_TO_CLEAR : ℕ
+WRITE_ZERO_TO_CLEAR = BERR + ARLO + AF + OVR + PECERR + TIMEOUT + SMBALERT
+
 -- SR2
 abbrev pub MSL : ℕ
 MSL = bit 0

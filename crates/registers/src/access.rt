@@ -1,10 +1,11 @@
 // A run's registers, one access at a time: a read takes the next reading, and every access is recorded.
 ghost use Rattle.std.specs.Prelude.{◌≡◌, ◌+◌, ◌*◌, ◌<◌, ◌≤◌, false, [], ◌∷◌, length, set, leb};
-ghost use Rattle.registers.specs.Access.{DR, is_data, entries_in, store, clear_word};
+ghost use Rattle.registers.specs.Access.{DR, is_data, entries_in, store, flag_of, clear_word};
 ghost use Rattle.registers.specs.Machine.{Step};
 
 use crate::{
-    Bits, BusError, Cut, ENTRY_WORDS, Entry, Progress, ReadCode, Stop, WriteCode, altered,
+    AF, ARLO, BERR, Bits, BusError, Cut, ENTRY_WORDS, Entry, OVR, PECERR, Progress, ReadCode, Stop,
+    TIMEOUT, WRITE_ZERO_TO_CLEAR, WriteCode, altered, without_bit,
 };
 use units::Setup;
 
@@ -177,7 +178,7 @@ impl<'a> Bus<'a> {
         self.write(WriteCode::Cr1, altered(word, on, off))
     }
 
-    // Clears the SR1 flag of an error.
+    // Clears the SR1 flag of an error, and no other.
     #[inline(always)]
     pub fn clear_flag(&mut self, error: BusError) -> Result<(), Stop>
         ensures { Writes WriteCode.Sr1 (clear_word error) self.old self.new result }
@@ -223,10 +224,25 @@ fn put_byte(rx: &mut [u8], k: usize, byte: u8)
     }
 }
 
-// The word that clears the SR1 flag of an error. A field write starts from 0, so it is 0 for each.
-#[tactic(auto, unfolding(crate::specs::Access::clear_word))]
-fn clear_word(_error: BusError) -> u32
-    ensures { result ≡ clear_word _error }
+// The SR1 flag that reports an error.
+#[tactic(auto, unfolding(crate::specs::Access::flag_of))]
+fn flag_of(error: BusError) -> u32
+    ensures { result ≡ flag_of error }
 {
-    0
+    match error {
+        BusError::Overrun => OVR,
+        BusError::NoAcknowledge(_) => AF,
+        BusError::Timeout => TIMEOUT,
+        BusError::Bus => BERR,
+        BusError::Crc => PECERR,
+        BusError::ArbitrationLoss => ARLO,
+    }
+}
+
+// The word that clears the flag of an error: every other write-zero-to-clear bit is set, so that it clears no other.
+#[tactic(auto, unfolding(crate::specs::Access::clear_word))]
+fn clear_word(error: BusError) -> u32
+    ensures { result ≡ clear_word error }
+{
+    without_bit(WRITE_ZERO_TO_CLEAR, flag_of(error))
 }

@@ -111,6 +111,11 @@ pub const PECERR: u32 = 0x1000;
 
 pub const TIMEOUT: u32 = 0x4000;
 
+const SMBALERT: u32 = 0x8000;
+
+// The write-zero-to-clear bits of SR1: a 0 written clears the bit, a 1 leaves it.
+const WRITE_ZERO_TO_CLEAR: u32 = BERR + ARLO + AF + OVR + PECERR + TIMEOUT + SMBALERT;
+
 // Bits of SR2.
 pub const MSL: u32 = 0x0001;
 

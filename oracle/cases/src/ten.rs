@@ -161,7 +161,8 @@ impl TenBit {
                 self.waits[wait] += 1;
             }
         }
-        let flagged = ran.made().ends_with(&[code::WRITE_SR1, 0]);
+        // OVR was found, and cleared.
+        let flagged = ran.made().ends_with(&[code::WRITE_SR1, 0xD700]);
         let empty = call.operations.last() == Some(&Read(0));
         if ran.answer() == 1 && !flagged && empty && call.kind < 3 {
             self.early[usize::from(call.kind - 1)] += 1;

@@ -321,8 +321,38 @@ mod tests {
     fn both_flags() {
         let polling = list(Settings::example(), 0, PlannedOperation::Write(vec![1]));
         assert_eq!(answer(&polling, &[0, 0, 0, 0xC00]), (1, 4));
+        assert_eq!(cleared(0, 0xC00), 0xD700);
         let blocking = list(Settings::example(), 4, PlannedOperation::Write(vec![1]));
         assert_eq!(answer(&blocking, &[0, 0, 0, 0xC00, 0]), (2, 5));
+        assert_eq!(cleared(4, 0xC00), 0xDB00);
+    }
+
+    /// The last SR1 write of a run of one write of this kind, whose first check or poll reads this word. Then the readings
+    /// end.
+    fn cleared(kind: u8, word: u32) -> u32 {
+        let bytes = list(Settings::example(), kind, PlannedOperation::Write(vec![1]));
+        let mut record = [0; 200];
+        let readings = [0, 0, 0, word];
+        let counts = run(&List::accepted(&bytes), &readings, &mut [], &mut record);
+        let last = device::ENTRY_WORDS * (counts.made - 1);
+        assert_eq!(record[last], 15);
+        record[last + 1]
+    }
+
+    /// C-15, by the Rust: the word that clears each flag keeps the others.
+    #[test]
+    fn each_flag_is_cleared_alone() {
+        for (flag, word) in [
+            (0x100, 0xDE00),
+            (0x200, 0xDD00),
+            (0x400, 0xDB00),
+            (0x800, 0xD700),
+        ] {
+            assert_eq!(cleared(0, flag), word);
+            assert_eq!(cleared(4, flag), word);
+        }
+        assert_eq!(cleared(0, 0x1000), 0xCF00);
+        assert_eq!(cleared(0, 0x4000), 0x9F00);
     }
 
     /// A blocking transaction, access for access as document 01 has write_read: two bytes written, two received.

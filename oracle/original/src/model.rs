@@ -23,6 +23,8 @@ pub mod sr1 {
     pub const OVR: u16 = 1 << 11;
     pub const PECERR: u16 = 1 << 12;
     pub const TIMEOUT: u16 = 1 << 14;
+    /// Every write-zero-to-clear bit: 8 to 12, 14, 15.
+    pub const WRITE_ZERO_TO_CLEAR: u16 = 0xDF00;
 }
 
 /// SR2 bits.
@@ -122,14 +124,19 @@ fn check(source: NoAcknowledgeSource) -> Result<u16, Error> {
         (sr1::AF, Error::NoAcknowledge(source)),
         (sr1::ARLO, Error::ArbitrationLoss),
     ];
-    let first = errors.into_iter().find(|(flag, _)| word & flag != 0);
-    if first.is_some() || word & sr1::BERR != 0 {
-        write_register(code::WRITE_SR1, 0);
+    if let Some((flag, error)) = errors.into_iter().find(|(flag, _)| word & flag != 0) {
+        clear(flag);
+        return Err(error);
     }
-    match first {
-        Some((_, error)) => Err(error),
-        None => Ok(word),
+    if word & sr1::BERR != 0 {
+        clear(sr1::BERR);
     }
+    Ok(word)
+}
+
+/// Clears one SR1 flag: every other write-zero-to-clear bit is set.
+fn clear(flag: u16) {
+    write_register(code::WRITE_SR1, sr1::WRITE_ZERO_TO_CLEAR & !flag);
 }
 
 /// How a call addresses its device.

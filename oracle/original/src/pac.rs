@@ -1,7 +1,7 @@
 //! Peripheral access: the registers, fields and methods that the sources use, over the stand-in device.
 //!
-//! A field write starts from 0 and is cut to the field; `modify` reads, then writes with only the named
-//! bits altered.
+//! A field write starts from 0, one of SR1 with every write-zero-to-clear bit set, and is cut to the field. A plain
+//! write is the word that it is given. `modify` reads, then writes with only the named bits altered.
 
 use core::marker::PhantomData;
 use core::ops::Deref;
@@ -15,6 +15,8 @@ pub trait Readable {
 
 pub trait Writable {
     const WRITE: u32;
+    /// The bits that a written 0 clears. A field write starts with them set.
+    const ZERO_TO_MODIFY_FIELDS_BITMAP: u16 = 0;
 }
 
 pub struct Reg<S>(PhantomData<S>);
@@ -44,7 +46,7 @@ impl<S: Readable> Reg<S> {
 impl<S: Writable> Reg<S> {
     #[inline(always)]
     pub fn write(&self, fill: impl FnOnce(&mut W<S>) -> &mut W<S>) {
-        self.write_from(0, fill);
+        self.write_from(S::ZERO_TO_MODIFY_FIELDS_BITMAP, fill);
     }
 
     #[inline(always)]
@@ -163,7 +165,7 @@ impl<'a, S, T: Into<u16>> FieldWriter<'a, S, T> {
 }
 
 macro_rules! registers {
-    ($($module:ident $marker:ident $(read $read:ident)? $(write $write:ident)? {
+    ($($module:ident $marker:ident $(read $read:ident)? $(write $write:ident $(from $from:literal)?)? {
         $(reads $($get:ident $get_at:literal),+;)?
         $(writes $($set:ident $set_at:literal),+;)?
     })+) => {
@@ -180,6 +182,7 @@ macro_rules! registers {
                 })?
                 $(impl Writable for $marker {
                     const WRITE: u32 = code::$write;
+                    $(const ZERO_TO_MODIFY_FIELDS_BITMAP: u16 = $from;)?
                 })?
 
                 $(impl R {
@@ -219,7 +222,7 @@ pub mod i2c1 {
         }
         cr2 Cr2 write WRITE_CR2 {}
         dr Dr read READ_DR write WRITE_DR {}
-        sr1 Sr1 read READ_SR1 write WRITE_SR1 {
+        sr1 Sr1 read READ_SR1 write WRITE_SR1 from 0xDF00 {
             reads sb 0, addr 1, btf 2, rx_ne 6, tx_e 7, berr 8, arlo 9, af 10, ovr 11, pecerr 12, timeout 14;
             writes berr 8, arlo 9, af 10, ovr 11, pecerr 12, timeout 14;
         }

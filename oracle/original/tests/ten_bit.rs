@@ -128,7 +128,7 @@ fn idle_transactions() {
 /// AF at the wait for ADD10, at that for ADDR of the write part, and at that of the read part.
 #[test]
 fn no_acknowledge_at_each_wait() {
-    let refused = [1, 0x400, 15, 0];
+    let refused = [1, 0x400, 15, 0xDB00];
     let parts = [&PREPARE_WRITE[..16], &refused].concat();
     assert_runs(0, &[byte()], 2, &[&parts]);
     assert_runs(1, &[Read(1)], 2, &[&parts]);
