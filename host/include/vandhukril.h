@@ -158,6 +158,43 @@ enum {
  */
 uint32_t speed_table(uint32_t index);
 
+/* Where each number of a chosen speed stands, and how many there are. */
+enum vandhukril_chosen {
+    VANDHUKRIL_CHOSEN_ANSWER = 0, /* 0, or why there is no speed: an enum vandhukril_no_choice */
+    VANDHUKRIL_CHOSEN_MODE = 1,   /* 0 Standard, 1 Fast 2:1, 2 Fast 16:9 */
+    VANDHUKRIL_CHOSEN_FIELD = 2,  /* the CCR field: 4 to 4095 in Standard, 1 to 4095 in Fast */
+    VANDHUKRIL_CHOSEN = 3
+};
+
+/* Why there is no speed under a ceiling. */
+enum vandhukril_no_choice {
+    VANDHUKRIL_NO_CHOICE_CEILING = 22,  /* the ceiling is 0 or above 400,000 Hz */
+    VANDHUKRIL_NO_CHOICE_NONE_FITS = 28 /* no mode and field fit: pclk1 is above 102,375 times the ceiling */
+};
+
+/*
+ * The fastest speed under a ceiling: of all modes and CCR fields with which the bus is not faster than the ceiling,
+ * those with which it is the fastest. Of several that are equally fast it is the one in Standard, else the one in
+ * Fast 2:1.
+ *
+ *   pclk1    in hertz; with 0 every mode and field fit, so that it is Fast 2:1 with field 1
+ *   ceiling  in hertz
+ *   chosen   written   the answer, the mode and the field, all three in every call
+ *
+ * With an answer other than 0 the mode and the field are 0. With the answer 0 the speed of the bus is
+ * pclk1 / (2 * field) hertz in Standard, pclk1 / (3 * field) in Fast 2:1, and pclk1 / (25 * field) in Fast 16:9.
+ *
+ * A list takes this pclk1, this mode and a frequency, and no field. The frequency to try is the speed of the bus,
+ * rounded down, or 1 where that is 0. It will do if speed_ccr answers this field for it, plus 32768 in Fast 2:1 and
+ * 49152 in Fast 16:9. From 4,095 Hz on it always will. A word with a larger field is slower than what was chosen. The
+ * ceiling itself can come to a faster one: the bring-up rounds the field down.
+ *
+ * The caller sees to it that `chosen` is not null, points to three numbers and is aligned for them, and that no other
+ * thread reads or writes these until the call returns. They need not be initialised. No other pointer is handed over,
+ * so there is nothing that they could overlap.
+ */
+void speed_under(uint32_t pclk1, uint32_t ceiling, uint32_t chosen[VANDHUKRIL_CHOSEN]);
+
 #ifdef __cplusplus
 }
 #endif

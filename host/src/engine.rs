@@ -23,6 +23,7 @@ mod raw {
         pub safe fn speed_trise(pclk1: u32, mode: u32, frequency: u32) -> u32;
         pub safe fn speed_ccr(pclk1: u32, mode: u32, frequency: u32) -> u32;
         pub safe fn speed_table(index: u32) -> u32;
+        pub fn speed_under(pclk1: u32, ceiling: u32, chosen: *mut [u32; 3]);
     }
 }
 
@@ -54,6 +55,18 @@ pub(crate) fn bus_run(
         );
     }
     counts
+}
+
+/// The answer, the mode and the CCR field of the fastest speed under a ceiling.
+pub(crate) fn speed_under(pclk1: u32, ceiling: u32) -> [u32; 3] {
+    // No answer, mode or field is this number: one that is not written shows.
+    let mut chosen = [u32::MAX; 3];
+    // SAFETY: `chosen` is a local, so its memory is there, aligned, and nobody else's. The engine keeps
+    // no pointer past its return.
+    unsafe {
+        raw::speed_under(pclk1, ceiling, &raw mut chosen);
+    }
+    chosen
 }
 
 #[cfg(test)]

@@ -3,10 +3,10 @@
 //! The engine takes a bus list and readings, performs the bring-up and then the calls of the list in
 //! order, and stops after the first call that does not end well. It answers with every register
 //! access, the bytes received, and how the run ended. It is written and proved in Rattle, and linked
-//! here as a static library. This crate adds no meaning to them: [`run`], the words of
-//! [`speed`] and those of [`usual`] are the engine's answers with Rust types around them. What a word
-//! is on the bus ([`speed::on_bus`]), and which flag an access clears ([`Access::cleared`]), are formulas
-//! of this crate.
+//! here as a static library. This crate adds no meaning to them: [`run`], the words and the choice of
+//! [`speed`], and the words of [`usual`] are the engine's answers with Rust types around them. What a word
+//! is on the bus ([`speed::on_bus`]), the word and the frequency of a choice ([`speed::Fastest`]), and which flag
+//! an access clears ([`Access::cleared`]), are formulas of this crate.
 //!
 //! | To do this | use |
 //! |---|---|
@@ -18,6 +18,7 @@
 //! | look at a list, right or wrong | [`BusList::from_bytes`], [`explain`], [`show`] |
 //! | know the speed words of settings, and what a CCR word is on the bus | [`speed`] |
 //! | show all usual speeds | [`usual`] |
+//! | choose the fastest speed under a ceiling | [`speed::under`], [`speed::Fastest`], [`speed::NoChoice`] |
 //!
 //! # Example
 //!
@@ -50,8 +51,8 @@
 //! # Safety
 //!
 //! Nothing reachable from here is unsafe to call. One small module has all the `unsafe` blocks; it
-//! turns borrowed slices into the pointers and lengths that the engine takes. The engine keeps no
-//! state between calls, so every function here may be called from any thread at any time.
+//! turns borrowed slices, and an array of its own, into the pointers and lengths that the engine takes. The
+//! engine keeps no state between calls, so every function here may be called from any thread at any time.
 
 #![deny(unsafe_op_in_unsafe_fn)]
 

@@ -1,4 +1,5 @@
-//! The speed words: what the bring-up writes to CR2, TRISE and CCR; and what a CCR word is on the bus.
+//! The speed words: what the bring-up writes to CR2, TRISE and CCR; what a CCR word is on the bus; and the fastest
+//! speed under a ceiling.
 //!
 //! The functions of the three words answer `None` where the settings have no word, that is, for a frequency of 0 or
 //! above 400,000 Hz. A bus list with such a frequency is refused.
@@ -12,8 +13,12 @@
 //! assert_eq!(speed::ccr(pclk1, Mode::Fast2To1, frequency), Some(0x801e));
 //! ```
 
+mod fastest;
+
 use crate::engine;
 use crate::settings::{Hertz, Mode};
+
+pub use fastest::{Fastest, NoChoice, under};
 
 /// What the engine answers where there is no word.
 const NO_WORD: u32 = 4_294_967_295;
@@ -71,13 +76,33 @@ pub fn ccr(pclk1: Hertz, mode: Mode, frequency: Hertz) -> Option<u32> {
 /// ```
 pub fn on_bus(pclk1: Hertz, ccr: u32) -> Option<f64> {
     let field = ccr & 0x0fff;
-    let cycles = match ccr & !0x0fff {
-        0 => 2 * field,
-        0x8000 => 3 * field,
-        0xc000 => 25 * field,
-        _ => return None,
-    };
-    (field != 0).then(|| f64::from(pclk1.0) / f64::from(cycles))
+    let mode = Mode::ALL
+        .into_iter()
+        .find(|&mode| flags(mode) == ccr & !0x0fff)?;
+    (field != 0).then(|| hertz(pclk1, mode, field))
+}
+
+/// F/S (bit 15) and DUTY (bit 14) as a mode has them in a CCR word.
+const fn flags(mode: Mode) -> u32 {
+    match mode {
+        Mode::Standard => 0,
+        Mode::Fast2To1 => 0x8000,
+        Mode::Fast16To9 => 0xc000,
+    }
+}
+
+/// The cycles of pclk1 in a period of SCL for a field of 1.
+const fn divisor(mode: Mode) -> u32 {
+    match mode {
+        Mode::Standard => 2,
+        Mode::Fast2To1 => 3,
+        Mode::Fast16To9 => 25,
+    }
+}
+
+/// The frequency of SCL in hertz, by the formula of [`on_bus`].
+fn hertz(pclk1: Hertz, mode: Mode, field: u32) -> f64 {
+    f64::from(pclk1.0) / (f64::from(divisor(mode)) * f64::from(field))
 }
 
 #[cfg(test)]

@@ -9,17 +9,14 @@ use lib.ListN.{length, length-append, get_or}
 use lib.Dec.{lit<}
 use lib.Seq.{get_or-append_seam, get_or-append-add, take-append_seam, drop-append_seam}
 use Rattle.units.specs.declared.Settings.{Settings}
-use Rattle.units.specs.declared.Mode.{Mode}
-use Rattle.units.specs.declared.Mode.TheVariants.{Standard, Fast}
-use Rattle.units.specs.declared.DutyCycle.TheVariants.{Ratio2to1, Ratio16to9}
-use Rattle.units.specs.Speed.{mode_of}
+use Rattle.units.proofs.Modes.{mode_back}
 use Rattle.buslist.specs.declared.Address.{Address}
 use Rattle.buslist.specs.declared.CallEntry.{CallEntry}
 use Rattle.buslist.specs.declared.OperationEntry.{OperationEntry}
 use Rattle.buslist.specs.Bytes.{byte, half, word}
 use Rattle.buslist.specs.Table.{call_count, call_offset, operation_count, operation_offset, data_bytes, data_offset, settings_of, call_at, operation_at, entries, calls}
 use Rattle.buslist.specs.Meaning.{Operation, write, read, address_number, address_width, Call, operation_of, address_of, call_of, calls_of}
-use Rattle.buslist.specs.Encode.{half_bytes, word_bytes, mode_number, header, call_entries, call_bytes, call_table, data_of, operation_entry, operation_entries, operation_bytes, operation_table, data_part, all_operations, encode}
+use Rattle.buslist.specs.Encode.{half_bytes, word_bytes, header, call_entries, call_bytes, call_table, data_of, operation_entry, operation_entries, operation_bytes, operation_table, data_part, all_operations, encode}
 
 -- a number past the first part of a list is read in the second part
 byte-after : (p q : List ℕ) (i : ℕ) → byte (p ++ q) (length p + i) ≡ byte q i
@@ -129,11 +126,6 @@ call_entries-length : (sum : ℕ) (cs : List Call) → length (call_entries sum 
 unfolding call_entries
 call_entries-length sum [] = refl
 call_entries-length sum (c ∷ cs) = rw (call_entries-length (sum + length c.operations) cs)
-
-mode_back : (m : Mode) → mode_of (mode_number m) ≡ m
-mode_back Standard = refl
-mode_back (Fast Ratio2to1) = refl
-mode_back (Fast Ratio16to9) = refl
 
 -- an address is read back from its width and its number
 address_back : (a : Address) (kind first count : ℕ) → address_of (record { kind = kind; width = address_width a; address = address_number a; first = first; count = count }) ≡ a

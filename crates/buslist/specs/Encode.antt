@@ -3,9 +3,7 @@
 use Rattle.std.specs.Prelude.{ℕ, ◌+◌, ◌*◌, ◌/◌, ◌%◌, length}
 use mathlib.Core.List.{List, [], ◌∷◌, ◌++◌, flat_map}
 use Rattle.units.specs.declared.Settings.{Settings}
-use Rattle.units.specs.declared.DutyCycle.TheVariants.{Ratio2to1, Ratio16to9}
-use Rattle.units.specs.declared.Mode.{Mode}
-use Rattle.units.specs.declared.Mode.TheVariants.{Standard, Fast}
+use Rattle.units.specs.Speed.{mode_number}
 use Rattle.buslist.specs.declared.CallEntry.{CallEntry}
 use Rattle.buslist.specs.declared.OperationEntry.{OperationEntry}
 use Rattle.buslist.specs.Meaning.{Operation, write, read, address_number, address_width, Call}
@@ -17,12 +15,6 @@ half_bytes n = n % 256 ∷ n / 256 ∷ []
 -- 32 bits, little-endian
 unfoldable pub word_bytes : ℕ → List ℕ
 word_bytes n = half_bytes (n % 65536) ++ half_bytes (n / 65536)
-
--- mode: 0 Standard, 1 Fast 2:1, 2 Fast 16:9
-abbrev pub mode_number : Mode → ℕ
-mode_number Standard = 0
-mode_number (Fast Ratio2to1) = 1
-mode_number (Fast Ratio16to9) = 2
 
 -- the sixteen words of the header, for C calls, O operations and D data bytes
 unfoldable pub header : Settings → ℕ → ℕ → ℕ → List ℕ

@@ -12,4 +12,5 @@ pub mod Witness
 pub mod ByWidth
 pub mod SpeedTable
 pub mod Clearing
+pub mod Ceiling
 pub mod Examples

@@ -11,10 +11,9 @@ use Rattle.units.specs.declared.Hertz.{Hertz}
 use Rattle.units.specs.declared.DutyCycle.TheVariants.{Ratio2to1, Ratio16to9}
 use Rattle.units.specs.declared.Mode.{Mode}
 use Rattle.units.specs.declared.Mode.TheVariants.{Standard, Fast}
-use Rattle.units.specs.Speed.{frequency_out, ccr_word}
+use Rattle.units.specs.Speed.{mode_number, frequency_out, ccr_word}
 use Rattle.speed_words.specs.Table.{megahertz, Speed, speeds, word_of, speed_words, index_of}
 use Rattle.speed_words.proofs.Rule.{rule}
-use Rattle.buslist.specs.Encode.{mode_number}
 use Rattle.engine.specs.Speed.{hertz, speed_ccr, speed_table}
 use Rattle.demands.specs.SpeedTable.{SpeedTable}
 

@@ -7,7 +7,7 @@ use Rattle.registers.specs.Access.{is_read, cut, entries_in, words_in, record_of
 use Rattle.registers.specs.Machine.{flat}
 use Rattle.engine.specs.Run.{Result, accepted_run, run, filled}
 
--- the numbers of document 01's table, and of document 02: 0 to 10, and the causes, 20 to 27
+-- the numbers that a run can answer: 0 to 10, and the causes, 20 to 26 of document 01 and 27 of document 02
 abbrev pub is_cause : ℕ → Bool
 is_cause n = leb 20 n && leb n 27
 

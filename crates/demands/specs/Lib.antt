@@ -6,3 +6,4 @@ pub mod ByKind
 pub mod ByWidth
 pub mod SpeedTable
 pub mod Clearing
+pub mod Ceiling

@@ -2,8 +2,8 @@
 use Rattle.std.specs.Prelude.{ℕ, ◌≤◌, ◌≡◌, slice_get, Some}
 use Rattle.units.specs.declared.Settings.{Settings}
 use Rattle.units.specs.Setup.{setup_of}
+use Rattle.units.specs.Speed.{mode_number}
 use Rattle.speed_words.specs.Table.{megahertz, Speed, speeds, index_of}
-use Rattle.buslist.specs.Encode.{mode_number}
 use Rattle.engine.specs.Speed.{speed_ccr, speed_table}
 
 pub record SpeedTable : Type 0 where

@@ -6,7 +6,7 @@ ghost use Rattle.buslist.specs.Refusal.{refusal};
 ghost use Rattle.registers.specs.Contract.{outcome_number};
 ghost use Rattle.engine.specs.Ended.{ended_counts};
 ghost use Rattle.engine.specs.Run.{Runs, HostRuns};
-ghost use Rattle.engine.specs.Speed.{speed_out, speed_cr2, speed_trise, speed_ccr, speed_table};
+ghost use Rattle.engine.specs.Speed.{speed_out, speed_cr2, speed_trise, speed_ccr, speed_table, SpeedUnder};
 
 use buslist::BusList;
 use registers::{Bus, Progress, Stop};
@@ -71,6 +71,16 @@ pub fn speed_table(index: u32) -> u32
         Some(word) => word as u32,
         None => NO_WORD,
     }
+}
+
+// The fastest speed under a ceiling: the answer, the mode and the CCR field go to `chosen`.
+pub fn speed_under(pclk1: u32, ceiling: u32, chosen: &mut [u32; 3])
+    ensures { SpeedUnder pclk1 ceiling chosen.new }
+{
+    *chosen = match speed_choice::fastest(Hertz(pclk1), Hertz(ceiling)) {
+        Ok(choice) => [0, choice.mode.into(), choice.field],
+        Err(reason) => [reason.into(), 0, 0],
+    };
 }
 
 // The number that document 01 gives an outcome.

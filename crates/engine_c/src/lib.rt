@@ -3,7 +3,7 @@
 
 ghost use Rattle.std.specs.Prelude.{◌≡◌};
 ghost use Rattle.engine.specs.Run.{HostRuns};
-ghost use Rattle.engine.specs.Speed.{speed_cr2, speed_trise, speed_ccr, speed_table};
+ghost use Rattle.engine.specs.Speed.{speed_cr2, speed_trise, speed_ccr, speed_table, SpeedUnder};
 
 // The CR2 word of the settings.
 #[unsafe(no_mangle)]
@@ -35,6 +35,14 @@ pub extern "C" fn speed_table(index: u32) -> u32
     ensures { result ≡ speed_table index }
 {
     engine::speed_table(index)
+}
+
+// The fastest speed under a ceiling: the answer, the mode and the CCR field go to `chosen`.
+#[unsafe(no_mangle)]
+pub extern "C" fn speed_under(pclk1: u32, ceiling: u32, chosen: &mut [u32; 3])
+    ensures { SpeedUnder pclk1 ceiling chosen.new }
+{
+    engine::speed_under(pclk1, ceiling, chosen)
 }
 
 // The run for hosts: the answer and the four counts, in the order returned, go to `counts`.

@@ -17,6 +17,12 @@ mode_of zero = Standard
 mode_of (suc zero) = Fast Ratio2to1
 mode_of (suc (suc n)) = Fast Ratio16to9
 
+-- and back
+abbrev pub mode_number : Mode → ℕ
+mode_number Standard = 0
+mode_number (Fast Ratio2to1) = 1
+mode_number (Fast Ratio16to9) = 2
+
 -- the mode that a known number stands for, or the number as an error
 abbrev pub DecodesMode : ℕ → Result Mode UnknownMode → Type 0
 DecodesMode number r = MatchResult r (λ mode. (mode_known number ≡ true) × (mode ≡ mode_of number)) (λ e. (mode_known number ≡ false) × (e.0 ≡ number))
@@ -58,6 +64,10 @@ at_least least n = cond (ltb n least) least n
 abbrev pub ccr_field : Hertz → Mode → Hertz → ℕ
 ccr_field pclk1 mode frequency = at_least (floor mode) (pclk1.0 / (divisor mode * frequency.0))
 
--- CCR: its field mod 4096, with the mode's flags
+-- a CCR word: its field mod 4096, with the mode's flags
+abbrev pub field_word : Mode → ℕ → ℕ
+field_word mode field = field % 4096 + speed_flags mode
+
+-- CCR: the word of that field
 abbrev pub ccr_word : Hertz → Mode → Hertz → ℕ
-ccr_word pclk1 mode frequency = ccr_field pclk1 mode frequency % 4096 + speed_flags mode
+ccr_word pclk1 mode frequency = field_word mode (ccr_field pclk1 mode frequency)

@@ -3,7 +3,7 @@
 
 ghost use Rattle.std.specs.Prelude.{◌≡◌, ◌<◌};
 ghost use Rattle.units.specs.Time.{to_mhz, to_cycles};
-ghost use Rattle.units.specs.Speed.{mode_of, DecodesMode, frequency_out, cr2_word, trise_word, divisor, floor, speed_flags, ccr_word};
+ghost use Rattle.units.specs.Speed.{mode_of, mode_number, DecodesMode, frequency_out, cr2_word, trise_word, divisor, floor, speed_flags, ccr_word};
 ghost use Rattle.units.specs.Setup.{setup_of};
 
 // A clock or a bus frequency.
@@ -90,6 +90,18 @@ impl TryFrom<u32> for Mode {
     }
 }
 
+impl From<Mode> for u32 {
+    ghost from_gives = { λ mode number. number ≡ mode_number mode };
+
+    fn from(mode: Mode) -> u32 {
+        match mode {
+            Mode::Standard => 0,
+            Mode::Fast(DutyCycle::Ratio2to1) => 1,
+            Mode::Fast(DutyCycle::Ratio16to9) => 2,
+        }
+    }
+}
+
 // The mode of a number that need not be known: the settings can be read of any list.
 pub fn mode_of(number: u32) -> Mode
     ensures { result ≡ mode_of number }
@@ -122,7 +134,7 @@ pub fn trise_word(pclk1: Hertz, mode: Mode) -> u32
 
 impl Mode {
     // A mode's divisor of the frequency.
-    fn divisor(self) -> u64
+    pub fn divisor(self) -> u64
         ensures { result ≡ divisor self }
     {
         match self {
@@ -133,7 +145,7 @@ impl Mode {
     }
 
     // A mode's least CCR field.
-    fn floor(self) -> u64
+    pub fn floor(self) -> u64
         ensures { result ≡ floor self }
     {
         match self {

@@ -1,5 +1,7 @@
-//! The bus list, read and written: from documents 01 and 02 alone, with nothing of the engine.
+//! The bus list, read and written, and the fastest speed under a ceiling: from documents 01 and 02 alone, with nothing
+//! of the engine.
 
+pub mod ceiling;
 mod join;
 mod plan;
 mod refusal;

@@ -15,7 +15,7 @@ pub fn causes(list: &[u8], rx: usize) -> Vec<u32> {
     };
     let tests = [
         (21, form.over_a_limit(list)),
-        (22, !(1..=400_000).contains(&form.header[9])),
+        (22, frequency_out(form.header[9])),
         (23, form.a_timeout_overflows()),
         (24, form.an_address_out()),
         (25, form.an_empty_blocking_call()),
@@ -24,6 +24,11 @@ pub fn causes(list: &[u8], rx: usize) -> Vec<u32> {
     ];
     let apply = tests.iter().filter(|(_, applies)| *applies);
     apply.map(|(cause, _)| *cause).collect()
+}
+
+/// Cause 22 of a frequency, or of a ceiling.
+pub(crate) fn frequency_out(hertz: u64) -> bool {
+    !(1..=400_000).contains(&hertz)
 }
 
 struct CallEntry {

@@ -1,8 +1,9 @@
-//! Compares the proved engine with the original Rust, its ten-bit calls with the model, and its refusals with the
-//! independent reader.
+//! Compares the proved engine with the original Rust, its ten-bit calls with the model, its refusals with the
+//! independent reader, and its speeds under a ceiling with a plain search.
 //!
 //! `differential [CASES] [SEED]`: 100,000 cases of seed 1 unless told otherwise.
 
+mod ceiling;
 mod speed;
 
 use std::path::Path;
@@ -23,17 +24,13 @@ fn main() -> ExitCode {
     let seed = numbers.next().unwrap_or(1);
     let started = Instant::now();
 
-    let compared =
-        speed::compare().and_then(|settings| speed::compare_table().map(|words| (settings, words)));
-    match compared {
-        Ok((settings, words)) => println!(
-            "speed words: {settings} settings, and {words} words of the table, no difference"
-        ),
+    let mut wrong = match compare_speeds() {
+        Ok(shortfalls) => shortfalls,
         Err(difference) => {
-            println!("speed words differ: {difference}");
+            println!("{difference}");
             return ExitCode::FAILURE;
         }
-    }
+    };
 
     let mut tally = Tally::default();
     for number in 0..cases {
@@ -53,7 +50,7 @@ fn main() -> ExitCode {
     println!("sweep, every place of short runs: no difference\n{swept}");
     println!("{:.1} seconds", started.elapsed().as_secs_f64());
 
-    let mut wrong = swept.impossible();
+    wrong.extend(swept.impossible());
     wrong.extend(tally.impossible());
     wrong.extend(tally.shortfalls());
     for line in &wrong {
@@ -64,6 +61,18 @@ fn main() -> ExitCode {
     } else {
         ExitCode::FAILURE
     }
+}
+
+/// What the speeds under a ceiling had too few of, or the first difference: of them, or of the speed words.
+fn compare_speeds() -> Result<Vec<String>, String> {
+    let words_differ = |difference| format!("speed words differ: {difference}");
+    let settings = speed::compare().map_err(words_differ)?;
+    let words = speed::compare_table().map_err(words_differ)?;
+    println!("speed words: {settings} settings, and {words} words of the table, no difference");
+    let tally = ceiling::compare()
+        .map_err(|difference| format!("speeds under a ceiling differ: {difference}"))?;
+    println!("speeds under a ceiling: {tally}");
+    Ok(tally.shortfalls())
 }
 
 fn run_engine(case: &Case) -> Ran {

@@ -76,7 +76,7 @@ fn entry(index: u32, expected: u32) -> Result<(), String> {
 }
 
 /// Every megahertz and its neighbours up to past the chip's clocks, steps between, and the edges of 32 bits.
-fn clocks() -> Vec<u32> {
+pub fn clocks() -> Vec<u32> {
     let whole = (0..=130).flat_map(|mhz| around(mhz * 1_000_000));
     let between = (0..130_000_000).step_by(333_331);
     let far = (0..=u32::MAX).step_by(97_000_003);
@@ -85,7 +85,7 @@ fn clocks() -> Vec<u32> {
 }
 
 /// Steps over all that is accepted, the smallest, and the neighbours of usual ones.
-fn frequencies() -> Vec<u32> {
+pub fn frequencies() -> Vec<u32> {
     let usual = [100_000, 200_000, 400_000].into_iter().flat_map(around);
     let all = (1..30).chain((30..400_000).step_by(1_237)).chain(usual);
     all.filter(|&frequency| frequency <= 400_000).collect()

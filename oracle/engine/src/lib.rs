@@ -20,6 +20,7 @@ mod exported {
         pub fn speed_trise(pclk1: u32, mode: u32, frequency: u32) -> u32;
         pub fn speed_ccr(pclk1: u32, mode: u32, frequency: u32) -> u32;
         pub fn speed_table(index: u32) -> u32;
+        pub fn speed_under(pclk1: u32, ceiling: u32, chosen: *mut [u32; 3]);
     }
 }
 
@@ -62,4 +63,13 @@ pub fn speed_words(pclk1: u32, mode: u32, frequency: u32) -> [u32; 3] {
 pub fn speed_table(index: u32) -> u32 {
     // SAFETY: a number in, a number out.
     unsafe { exported::speed_table(index) }
+}
+
+/// The fastest speed under a ceiling: the answer, the number of the mode, and the CCR field.
+pub fn speed_under(pclk1: u32, ceiling: u32) -> [u32; 3] {
+    // No zeros, since 0 can be right: a number that is not written shows.
+    let mut chosen = [u32::MAX; 3];
+    // SAFETY: numbers in, and the array to be written is borrowed alone.
+    unsafe { exported::speed_under(pclk1, ceiling, &mut chosen) };
+    chosen
 }
