@@ -41,7 +41,7 @@ enum vandhukril_answer {
     VANDHUKRIL_NO_READINGS = 9,              /* the next access is a read and every reading is used */
     VANDHUKRIL_NO_RECORD = 10,               /* fewer than two record words remain for the next access */
     VANDHUKRIL_REFUSED_FORM = 20,            /* the list is not of the form */
-    VANDHUKRIL_REFUSED_LIMIT = 21,           /* over 32,768 bytes, 256 calls, 1,024 operations or 4,096 bytes in one */
+    VANDHUKRIL_REFUSED_LIMIT = 21,           /* over 32,768 bytes, 256 calls, 1,024 operations or 258 bytes in one */
     VANDHUKRIL_REFUSED_FREQUENCY = 22,       /* the frequency is 0 or above 400,000 Hz */
     VANDHUKRIL_REFUSED_TIMEOUT = 23,         /* a timeout is too long for 32 bits of cycles */
     VANDHUKRIL_REFUSED_ADDRESS = 24,         /* seven-bit above 127, ten-bit above 1023, or a ten-bit blocking call */
@@ -49,6 +49,12 @@ enum vandhukril_answer {
     VANDHUKRIL_REFUSED_RECEIVED_BUFFER = 26, /* all reads together are longer than the received buffer */
     VANDHUKRIL_REFUSED_WRITE_AFTER_READ = 27 /* a blocking transaction has a read, then a write, empty ones left out */
 };
+
+/*
+ * The most bytes that one operation of a bus list may have, read or written. A transaction joins neighbours of one
+ * direction, so it takes a longer read or write in parts.
+ */
+enum { VANDHUKRIL_LONGEST_OPERATION = 258 };
 
 /* The first word of an access: which register, read or written. The codes of reads are below those of writes. */
 enum vandhukril_code {

@@ -2,6 +2,7 @@
 
 use std::fmt;
 
+use crate::list::LONGEST_OPERATION;
 use crate::run::Counts;
 
 /// A run that did not end well: why, and how far it came.
@@ -228,7 +229,7 @@ impl Refusal {
             Refusal::Form => "list not of the form",
             Refusal::Limit => {
                 "list over 32,768 bytes, calls over 256, operations over 1,024, \
-                 an operation over 4,096 bytes"
+                 an operation over 258 bytes"
             }
             Refusal::Frequency => "frequency 0 or above 400,000",
             Refusal::Timeout => "a timeout times whole sysclk MHz above 4,294,967,295",
@@ -256,7 +257,8 @@ impl Refusal {
             }
             Refusal::Limit => {
                 "Split the list, or the operation: at most 32,768 bytes, 256 calls, 1,024 operations, \
-                 and 4,096 bytes in one operation."
+                 and 258 bytes in one operation. A transaction of the same engine joins neighbours of one \
+                 direction, so it takes a longer read or write in parts."
             }
             Refusal::Frequency => "Set the frequency to a number from 1 to 400,000, in hertz.",
             Refusal::Timeout => {
@@ -363,7 +365,7 @@ impl fmt::Display for DoesNotFit {
             } => write!(
                 f,
                 "call {call}, operation {operation}: a write of {length} bytes does not fit its length field. \
-                 Split it: the engine takes at most 4,096 bytes in one operation."
+                 Split it: the engine takes at most {LONGEST_OPERATION} bytes in one operation."
             ),
             DoesNotFit::Operations { call } => write!(
                 f,
@@ -436,6 +438,20 @@ mod tests {
     }
 
     #[test]
+    fn the_longest_operation_is_told_as_it_is() {
+        assert_eq!(
+            Refusal::Limit.to_string(),
+            format!(
+                "refused: list over 32,768 bytes, calls over 256, operations over 1,024, \
+                 an operation over {LONGEST_OPERATION} bytes (21). \
+                 Split the list, or the operation: at most 32,768 bytes, 256 calls, 1,024 operations, \
+                 and {LONGEST_OPERATION} bytes in one operation. A transaction of the same engine joins \
+                 neighbours of one direction, so it takes a longer read or write in parts."
+            )
+        );
+    }
+
+    #[test]
     fn every_cause_says_what_to_do() {
         for cause in Cause::ALL.into_iter().chain([Cause::Other(11)]) {
             let advice = cause.advice();
@@ -463,7 +479,7 @@ mod tests {
             texts,
             [
                 "call 2, operation 0: a write of 65536 bytes does not fit its length field. \
-                 Split it: the engine takes at most 4,096 bytes in one operation.",
+                 Split it: the engine takes at most 258 bytes in one operation.",
                 "call 3: the operations up to its end are too many for its fields. \
                  Split the list: the engine takes at most 1,024 operations.",
                 "the list is too long for the fields of its header. \

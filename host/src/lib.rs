@@ -11,6 +11,7 @@
 //! | To do this | use |
 //! |---|---|
 //! | make a bus list | [`BusList`], with [`Settings`] or [`PollingSettings`] |
+//! | give a long transfer in parts | [`LONGEST_OPERATION`] |
 //! | run it | [`run`] |
 //! | see what the run did | [`accesses`], [`Report`] |
 //! | see which error flag an access clears | [`Access::cleared`] |
@@ -67,7 +68,9 @@ mod text;
 pub mod usual;
 
 pub use error::{Cause, DoesNotFit, Error, NoAcknowledge, Refusal};
-pub use list::{Address, BusList, Call, Fault, Kind, Operation, Warning, explain, show};
+pub use list::{
+    Address, BusList, Call, Fault, Kind, LONGEST_OPERATION, Operation, Warning, explain, show,
+};
 pub use record::{ACCESS_WORDS, Access, Direction, ErrorFlag, Register, Report, accesses};
 pub use run::{Counts, answer, run};
 pub use settings::{Hertz, ListSettings, Micros, Mode, PollingSettings, Settings};

@@ -139,7 +139,43 @@ impl fmt::Display for Address {
     }
 }
 
-/// One operation of a call.
+/// The most bytes that one operation of a list may have. The engine refuses a list with a longer one
+/// (cause 21), also when it is a read.
+///
+/// A longer transfer is given in parts to a transaction of the same engine. It joins neighbours of one
+/// direction, so that on the bus the parts are one:
+///
+/// ```
+/// use vandhukril::Operation::Write;
+/// use vandhukril::{BusList, LONGEST_OPERATION, accesses, run};
+/// # use vandhukril::{Hertz, Micros, Mode, Settings};
+/// # let settings = Settings {
+/// #     pclk1: Hertz(36_000_000),
+/// #     sysclk: Hertz(72_000_000),
+/// #     mode: Mode::Standard,
+/// #     frequency: Hertz(100_000),
+/// #     start_timeout: Micros(1000),
+/// #     start_retries: 3,
+/// #     address_timeout: Micros(1000),
+/// #     data_timeout: Micros(1000),
+/// # };
+///
+/// let data = [0x2a; 600];
+/// let parts = data.chunks(LONGEST_OPERATION).map(|part| Write(part.to_vec()));
+/// let list = BusList::new(settings).blocking_transaction(0x50, parts).to_bytes()?;
+///
+/// let mut record = [0; 4000];
+/// run(&list, &[0xcf; 2000], &mut [], &mut record)?;
+/// // What goes to DR is the address, once, and then all data.
+/// let sent: Vec<_> = accesses(&record).filter(|access| access.code == 16).collect();
+/// assert_eq!((sent.len(), sent[0].value), (1 + 600, 0xa0));
+/// # Ok::<(), Box<dyn std::error::Error>>(())
+/// ```
+///
+/// A read of 300 bytes is `[Operation::Read(258), Operation::Read(42)]`.
+pub const LONGEST_OPERATION: usize = 258;
+
+/// One operation of a call. The engine takes at most [`LONGEST_OPERATION`] bytes in one.
 #[derive(Clone, Debug, PartialEq, Eq, Hash)]
 pub enum Operation {
     /// Writes these bytes.
@@ -263,7 +299,7 @@ impl<S: ListSettings> BusList<S> {
         self.push(Kind::WriteRead, address, write_then_read(bytes, length))
     }
 
-    /// Adds a polling call of any operations (kind 3).
+    /// Adds a polling call of any operations (kind 3). Neighbours of one direction are joined.
     pub fn transaction(
         &mut self,
         address: impl Into<Address>,

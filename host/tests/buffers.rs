@@ -325,17 +325,3 @@ fn an_error_flag_at_every_reading() {
     // ARLO, OVR, the three sources of AF, TIMEOUT, BERR and PECERR each end a run; 0 where a flag plays no part.
     assert!(seen[..9].iter().all(|&runs| runs > 0), "{seen:?}");
 }
-
-#[test]
-fn the_longest_operations() {
-    let mut list = BusList::new(settings());
-    list.read(0x50, 4096)
-        .write(0x50, &[0x5a; 4096])
-        .blocking_read(0x50, 4096);
-    let bytes = list.to_bytes().expect("it fits");
-    let ran = run_with(&bytes, &[READY; 60_000], 8192, 120_000);
-    assert_eq!(ran.answer(), 0);
-    assert_eq!(ran.counts().received, 8192);
-    let ran = run_with(&bytes, &[READY; 60_000], 8191, 120_000);
-    assert_eq!(ran.answer(), 26);
-}

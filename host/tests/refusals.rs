@@ -4,7 +4,7 @@ mod common;
 
 use common::{refusal, settings};
 use vandhukril::Operation::{Read, Write};
-use vandhukril::{Address, BusList, Hertz, Micros, Refusal, Settings, explain};
+use vandhukril::{Address, BusList, Hertz, LONGEST_OPERATION, Micros, Refusal, Settings, explain};
 
 /// A list that is accepted with a received buffer of two bytes.
 fn good() -> Vec<u8> {
@@ -114,18 +114,19 @@ fn cause_21_at_each_limit() {
         refused(&bytes_of(list), 10_000, Refusal::Limit, at, what);
     };
     let mut list = BusList::new(settings());
-    for _ in 0..8 {
-        list.write(0x50, &[0; 4070]);
+    for _ in 0..119 {
+        list.write(0x50, &[0; LONGEST_OPERATION]);
     }
-    // 64 + 8 * 16 + 8 * 4070 is 16 bytes short of the limit.
-    list.transaction(0x50, [Write(vec![])]);
+    // 64 + 119 * (16 + 258) is 98 bytes short of the limit, and a write takes 16 beside its data.
+    let mut longer = list.clone();
+    list.write(0x50, &[0; 82]);
     assert_eq!(bytes_of(&list).len(), 32_768);
     accepted(&bytes_of(&list), 0);
-    list.transaction(0x50, []);
+    longer.write(0x50, &[0; 83]);
     limit(
-        &list,
+        &longer,
         32_768,
-        "the list has 32776 bytes, but the limit is 32,768",
+        "the list has 32769 bytes, but the limit is 32,768",
     );
 
     let mut list = BusList::new(settings());
@@ -146,16 +147,14 @@ fn cause_21_at_each_limit() {
         "the list has 1025 operations, but the limit is 1,024",
     );
 
-    accepted(&bytes_of(BusList::new(settings()).read(0x50, 4096)), 4096);
+    // Of several operations that are too long the first is named. `tests/longest.rs` has each kind of call.
+    let mut list = BusList::new(settings());
+    list.transaction(0x50, [Read(258), Write(vec![0; 259]), Read(65_535)])
+        .blocking_read(0x50, 300);
     limit(
-        BusList::new(settings()).read(0x50, 4097),
-        74,
-        "operation 0: length is 4097, but the limit is 4,096",
-    );
-    limit(
-        BusList::new(settings()).write(0x50, &[0; 4097]),
-        74,
-        "operation 0: length is 4097, but the limit is 4,096",
+        &list,
+        64 + 2 * 8 + 8 + 2,
+        "call 0: operation 1: length is 259, but the limit is 258",
     );
 }
 
@@ -272,6 +271,16 @@ fn a_fault_says_what_to_do() {
          Give the call a seven-bit address from 0 to 127, as it is before it is shifted to make \
          room for the direction bit. A polling call may have a ten-bit one, from 0 to 1023."
     );
+    let to_split = bytes_of(BusList::new(settings()).write(0x50, &[0; 300]));
+    let told = explain(&to_split, 0).unwrap_err().to_string();
+    assert_eq!(
+        told,
+        "byte 74: call 0: operation 0: length is 300, but the limit is 258. \
+         Split the list, or the operation: at most 32,768 bytes, 256 calls, 1,024 operations, \
+         and 258 bytes in one operation. A transaction of the same engine joins neighbours of one \
+         direction, so it takes a longer read or write in parts."
+    );
+    assert!(include_str!("../README.md").contains(&told));
     assert_eq!(
         explain(&changed(32, 3), 2).unwrap_err().to_string(),
         "byte 32: mode is 3, but must be 0 to 2. \
@@ -399,7 +408,7 @@ fn cause_27_only_for_what_is_left() {
     back(vec![one(), Read(1), one(), Read(1)], 88);
 }
 
-/// A list with every cause from 21 on; each is answered when those before it are put right.
+/// A list with every cause; each is answered when those before it are put right.
 #[test]
 fn causes_are_answered_in_rising_order() {
     let wrong = Settings {
@@ -413,7 +422,7 @@ fn causes_are_answered_in_rising_order() {
             .write(address, &[1])
             .blocking_write(1, blocking)
             .blocking_transaction(1, [Read(1), last]);
-        refusal(&bytes_of(&list), 10)
+        bytes_of(&list)
     };
     let back = || Write(vec![2]);
     let right = settings();
@@ -421,26 +430,24 @@ fn causes_are_answered_in_rising_order() {
         frequency: Hertz(1),
         ..wrong
     };
+    let mut all = build(wrong, 259, 200, &[], back());
+    // No kind has this number.
+    all[64] = 8;
     let cases = [
-        (build(wrong, 5000, 200, &[], back()), Some(Refusal::Limit)),
-        (build(wrong, 50, 200, &[], back()), Some(Refusal::Frequency)),
-        (build(slow, 50, 200, &[], back()), Some(Refusal::Timeout)),
-        (build(right, 50, 200, &[], back()), Some(Refusal::Address)),
-        (
-            build(right, 50, 100, &[], back()),
-            Some(Refusal::EmptyBlocking),
-        ),
-        (
-            build(right, 50, 100, &[1], back()),
-            Some(Refusal::ReceivedBuffer),
-        ),
-        (
-            build(right, 5, 100, &[1], back()),
-            Some(Refusal::WriteAfterRead),
-        ),
-        (build(right, 5, 100, &[1], Read(1)), None),
+        (all, 20),
+        (build(wrong, 259, 200, &[], back()), 21),
+        (build(wrong, 258, 200, &[], back()), 22),
+        (build(slow, 258, 200, &[], back()), 23),
+        (build(right, 258, 200, &[], back()), 24),
+        (build(right, 258, 100, &[], back()), 25),
+        (build(right, 258, 100, &[1], back()), 26),
+        (build(right, 5, 100, &[1], back()), 27),
+        (build(right, 5, 100, &[1], Read(1)), 0),
     ];
-    for (answered, expected) in cases {
-        assert_eq!(answered, expected);
+    for (bytes, expected) in cases {
+        let answered = refusal(&bytes, 10);
+        assert_eq!(answered.map_or(0, Refusal::number), expected);
+        let fault = explain(&bytes, 10).err();
+        assert_eq!(fault.map(|fault| fault.refusal), answered);
     }
 }

@@ -2,7 +2,7 @@
 
 mod common;
 
-use common::{READY, Ran, as_by_hand, run_with, settings, short_sequences};
+use common::{READY, Ran, as_by_hand, planned, run_with, settings, short_sequences};
 use vandhukril::Operation::{Read, Write};
 use vandhukril::{Address, BusList, Hertz, Mode, Operation, PollingSettings, Report};
 
@@ -92,33 +92,18 @@ fn every_address_goes_out_as_header_and_low_byte() {
     }
 }
 
-/// What goes out for a transaction at a ten-bit address, and by how many accesses it is longer than the same
-/// transaction at a seven-bit one: 2 where a write is prepared, 9 where the first operation is a read.
-fn plan(address: u16, operations: &[Operation]) -> (Vec<u32>, usize) {
-    let whole = [header(address), low_byte(address)];
-    let mut sent = Vec::new();
-    let mut longer = 0;
+/// By how many accesses a transaction at a ten-bit address is longer than the same one at a seven-bit one: 2 where a
+/// write is prepared, 9 where the first operation is a read.
+fn longer(operations: &[Operation]) -> usize {
     let mut before: Option<&Operation> = None;
-    for operation in operations {
-        match (before, operation) {
-            (None | Some(Read(_)), Write(_)) => {
-                sent.extend(whole);
-                longer += 2;
-            }
-            (None, Read(_)) => {
-                sent.extend(whole);
-                sent.push(header(address) + 1);
-                longer += 9;
-            }
-            (Some(Write(_)), Read(_)) => sent.push(header(address) + 1),
-            _ => (),
-        }
-        if let Write(bytes) = operation {
-            sent.extend(bytes.iter().map(|&byte| u32::from(byte)));
-        }
-        before = Some(operation);
-    }
-    (sent, longer)
+    let more = operations
+        .iter()
+        .map(|operation| match (before.replace(operation), operation) {
+            (None | Some(Read(_)), Write(_)) => 2,
+            (None, Read(_)) => 9,
+            _ => 0,
+        });
+    more.sum()
 }
 
 #[test]
@@ -126,13 +111,13 @@ fn every_short_transaction_sends_the_address_at_its_turns() {
     for operations in short_sequences(3) {
         let ten = transaction(Address::Ten(0x2a5), &operations);
         let seven = transaction(Address::Seven(0x25), &operations);
-        let (sent, longer) = plan(0x2a5, &operations);
+        let sent = planned(Address::Ten(0x2a5), &operations);
         assert_eq!(ten.sent(), sent, "{operations:?}");
         assert_eq!(ten.answer(), seven.answer(), "{operations:?}");
         assert_eq!(ten.received, seven.received, "{operations:?}");
         assert_eq!(
             ten.counts().accesses,
-            seven.counts().accesses + longer,
+            seven.counts().accesses + longer(&operations),
             "{operations:?}"
         );
     }

@@ -4,7 +4,7 @@ mod common;
 
 use common::{Draw, READY, Ran, as_by_hand, run_with, settings, short_sequences};
 use vandhukril::Operation::{Read, Write};
-use vandhukril::{BusList, Kind, Operation, Refusal, Report, Settings, answer, explain};
+use vandhukril::{BusList, Kind, Operation, Report, Settings, answer};
 
 fn transaction(operations: &[Operation]) -> BusList {
     let mut list = BusList::new(settings());
@@ -157,60 +157,4 @@ fn an_idle_transaction_needs_no_reading_and_no_record() {
     assert_eq!((ran.counts().calls, ran.counts().accesses), (2, 5));
     // And a received buffer of no bytes.
     assert_eq!(list.received_length(), 0);
-}
-
-/// A joined write may be as long as the data part of the longest list.
-#[test]
-fn a_joined_write_may_be_longer_than_any_one_listed() {
-    let data: Vec<u8> = (0..32_632_u32).map(|n| (n % 251) as u8).collect();
-    let writes: Vec<Operation> = data.chunks(4096).map(|part| Write(part.to_vec())).collect();
-    let list = transaction(&writes);
-    // 64 + 8 * 1 + 8 * 8 + 32,632
-    assert_eq!(list.to_bytes().expect("it fits").len(), 32_768);
-
-    let ran = run_on(&list, &vec![READY; 70_000], 200_000);
-    assert_eq!(ran.answer(), 0);
-    // With n bytes: 2n + 11 readings and 3n + 15 accesses, after the bring-up's 1 and 5.
-    let counts = ran.counts();
-    assert_eq!(counts.readings, 1 + 2 * data.len() + 11);
-    assert_eq!(counts.accesses, 5 + 3 * data.len() + 15);
-    let expected: Vec<u32> = [0xa0]
-        .iter()
-        .chain(&data)
-        .map(|&byte| byte.into())
-        .collect();
-    assert!(
-        ran.sent() == expected,
-        "the address once, then every byte in order"
-    );
-}
-
-/// The length of a joined read does not fit the 16 bits of a listed one.
-#[test]
-fn a_joined_read_may_be_longer_than_65535_bytes() {
-    for reads in [16, 17] {
-        let length = 4096 * reads;
-        let list = transaction(&vec![Read(4096); reads]);
-        assert_eq!(list.received_length(), length);
-
-        // Ten readings come before the first wait: 1 in the bring-up, 3 for START, 3 for the address, then CR1, SR1 and
-        // SR2. Each byte but the last three takes CYC, SR1 and DR.
-        let mut readings = vec![READY; 3 * length + 13];
-        for (place, byte) in (0..length - 3).enumerate() {
-            readings[10 + 3 * place + 2] = byte as u32 % 251;
-        }
-        let ran = run_on(&list, &readings, 2 * (3 * length + 24));
-        assert_eq!(ran.answer(), 0);
-        let counts = ran.counts();
-        assert_eq!(counts.readings, 1 + 3 * length + 12);
-        assert_eq!(counts.accesses, 5 + 3 * length + 19);
-        let mut expected: Vec<u8> = (0..length - 3).map(|n| (n % 251) as u8).collect();
-        expected.extend([READY as u8; 3]);
-        assert!(*ran.received == expected[..], "every byte in its place");
-
-        let bytes = list.to_bytes().expect("it fits");
-        let fault = explain(&bytes, length - 1).expect_err("one byte is missing");
-        assert_eq!(fault.refusal, Refusal::ReceivedBuffer);
-        assert_eq!(common::refusal(&bytes, length - 1), Some(fault.refusal));
-    }
 }

@@ -15,7 +15,7 @@ pub use refusal::Refusal;
 use units::{Hertz, Micros, Settings};
 
 // The most bytes that one operation may have.
-const LONGEST_OPERATION: u32 = 4096;
+const LONGEST_OPERATION: u32 = 258;
 
 fn too_long(o: OperationEntry) -> bool
     ensures { result ≡ too_long o }

@@ -17,14 +17,14 @@ unfoldable pub any : {A : Type 0} → (A → Bool) → List A → Bool
 any test [] = false
 any test (x ∷ xs) = test x || any test xs
 
--- the longest operation, in bytes
+-- the longest operation, in bytes: a memory address of two and a page of 256 (document 02)
 abbrev pub longest_operation : ℕ
-longest_operation = 4096
+longest_operation = 258
 
 abbrev pub too_long : OperationEntry → Bool
 too_long o = ltb longest_operation o.length
 
--- 21: list over 32,768 bytes, calls over 256, operations over 1,024, an operation over 4,096 bytes
+-- 21: list over 32,768 bytes, calls over 256, operations over 1,024, an operation over 258 bytes
 unfoldable pub over_limit : List ℕ → Bool
 over_limit l =
     ltb 32768 (length l) || ltb 256 (call_count l) || ltb 1024 (operation_count l) || any too_long (operations l)

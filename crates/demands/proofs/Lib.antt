@@ -13,4 +13,5 @@ pub mod ByWidth
 pub mod SpeedTable
 pub mod Clearing
 pub mod Ceiling
+pub mod Longest
 pub mod Examples

@@ -7,3 +7,4 @@ pub mod ByWidth
 pub mod SpeedTable
 pub mod Clearing
 pub mod Ceiling
+pub mod Longest

@@ -5,9 +5,9 @@
 
 use std::fmt;
 
-use super::Kind;
 use super::layout::{self, CallRow, HEADER, Layout, OperationRow};
 use super::warn::{Warning, warnings};
+use super::{Kind, LONGEST_OPERATION};
 use crate::error::Refusal;
 use crate::text::counted;
 
@@ -323,11 +323,17 @@ fn limits(l: Layout) -> Result<(), Fault> {
     must(operations <= 1024, limit, layout::OPERATIONS, || {
         format!("the list has {operations} operations, but the limit is 1,024")
     })?;
-    for (number, row) in l.operations().enumerate() {
-        must(row.length <= 4096, limit, row.at + 2, || {
-            let length = row.length;
-            format!("operation {number}: length is {length}, but the limit is 4,096")
-        })?;
+    // In a list of the form each operation is one of a call.
+    for (number, row) in l.calls().enumerate() {
+        for (place, operation) in (usize::from(row.first)..).zip(l.operations_of(&row)) {
+            let length = usize::from(operation.length);
+            must(length <= LONGEST_OPERATION, limit, operation.at + 2, || {
+                format!(
+                    "call {number}: operation {place}: length is {length}, \
+                     but the limit is {LONGEST_OPERATION}"
+                )
+            })?;
+        }
     }
     Ok(())
 }

@@ -229,6 +229,37 @@ pub fn short_sequences(longest: u8) -> Vec<Vec<Operation>> {
     all
 }
 
+/// What goes out for operations that are done one after the other in one call: the address at the first one and at each
+/// change of direction, and the bytes of the writes.
+pub fn planned(address: Address, operations: &[Operation]) -> Vec<u32> {
+    let mut sent = Vec::new();
+    // Whether the operation before reads.
+    let mut before = None;
+    for operation in operations {
+        let reads = matches!(operation, Operation::Read(_));
+        if before != Some(reads) {
+            match address {
+                Address::Seven(address) => sent.push(2 * address + u16::from(reads)),
+                Address::Ten(address) => {
+                    let header = 0xf0 + 2 * (address >> 8);
+                    // A read after a write has the header alone.
+                    if before.is_none() || !reads {
+                        sent.extend([header, address & 0xff]);
+                    }
+                    if reads {
+                        sent.push(header + 1);
+                    }
+                }
+            }
+        }
+        if let Operation::Write(bytes) = operation {
+            sent.extend(bytes.iter().map(|&byte| u16::from(byte)));
+        }
+        before = Some(reads);
+    }
+    sent.into_iter().map(u32::from).collect()
+}
+
 /// Numbers that look drawn, the same on every run.
 pub struct Draw(pub u32);
 

@@ -3,7 +3,7 @@
 use buslist::{List, Plan, PlannedCall, PlannedOperation, Settings, HEADER};
 use device::ENTRY_WORDS;
 
-/// Bytes of an operation.
+/// Bytes of an operation, but for those of pages.
 const LENGTH: usize = 16;
 /// A reading that ends every wait at its first poll.
 const READY: u32 = 0xCF;
@@ -20,6 +20,8 @@ pub struct Row {
 }
 
 pub fn rows() -> Vec<Row> {
+    // What depots do: a memory address of two bytes is written, and a page of 256 read.
+    let page = vec![write(2), PlannedOperation::Read(256)];
     let (write, read) = (write(LENGTH), PlannedOperation::Read(LENGTH));
     let both = [[write.clone(), write.clone()], [read.clone(), read.clone()]].concat();
     let kinds = [
@@ -31,6 +33,8 @@ pub fn rows() -> Vec<Row> {
         ("joined write", vec![with(7, vec![write; 4])]),
         ("joined read", vec![with(7, vec![read; 4])]),
         ("joined both", vec![with(7, both)]),
+        ("polling page", vec![with(2, page.clone())]),
+        ("blocking page", vec![with(6, page)]),
     ];
     of_each_length(&kinds)
 }
@@ -66,8 +70,8 @@ fn row(name: &'static str, kinds: &[PlannedCall], calls: usize) -> Row {
     };
     let (list, rx) = (plan.bytes(), plan.read_together());
     let plain = plain(plan).bytes();
-    let mut readings = vec![READY; 1 << 17];
-    let mut record = vec![0; 1 << 18];
+    let mut readings = vec![READY; 1 << 18];
+    let mut record = vec![0; 1 << 19];
     let counts = original::run(
         &List::accepted(&plain),
         &readings,

@@ -110,11 +110,11 @@ mod tests {
         assert_eq!(done_as(&[write(&[]), Read(0)]), None);
     }
 
-    /// No length is cut to 16 bits, and none to 4,096.
+    /// No length is cut to 16 bits, and none to the 258 bytes that a listed operation may have.
     #[test]
     fn joined_lengths_are_whole() {
-        assert_eq!(combined(&vec![Read(4_096); 17]), [Read(69_632)]);
-        let joined = combined(&vec![Write(vec![7; 4_096]); 2]);
-        assert_eq!(joined, [Write(vec![7; 8_192])]);
+        assert_eq!(combined(&vec![Read(258); 255]), [Read(65_790)]);
+        let joined = combined(&vec![Write(vec![7; 258]); 2]);
+        assert_eq!(joined, [Write(vec![7; 516])]);
     }
 }

@@ -9,7 +9,7 @@ mod view;
 
 pub use join::{combined, joined, plain_kind};
 pub use plan::{Plan, PlannedCall, PlannedOperation};
-pub use refusal::{causes, refusal};
+pub use refusal::{causes, over_another_limit, refusal};
 pub use view::{Call, List, Mode, Operation, Settings};
 
 /// The bytes of a header: sixteen 32-bit words.
@@ -22,7 +22,7 @@ pub mod limit {
     pub const LIST_BYTES: usize = 32_768;
     pub const CALLS: usize = 256;
     pub const OPERATIONS: usize = 1_024;
-    pub const OPERATION_BYTES: usize = 4_096;
+    pub const OPERATION_BYTES: usize = 258;
 }
 
 /// The highest address of each width, by cause 24.

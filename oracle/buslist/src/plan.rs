@@ -60,7 +60,7 @@ impl PlannedCall {
         self.width == 10
     }
 
-    /// A call of an accepted list.
+    /// A call of a list of the form.
     pub fn of(list: &List, call: &Call) -> PlannedCall {
         PlannedCall {
             kind: call.kind,
@@ -86,7 +86,7 @@ impl PlannedCall {
 }
 
 impl Plan {
-    /// The plan of an accepted list.
+    /// The plan of a list of the form.
     pub fn of(list: &List) -> Plan {
         Plan {
             settings: list.settings(),
@@ -97,17 +97,18 @@ impl Plan {
         }
     }
 
+    /// The operations of all calls, one after the other.
+    pub fn operations(&self) -> impl Iterator<Item = &PlannedOperation> {
+        self.calls.iter().flat_map(|call| &call.operations)
+    }
+
     /// The bytes that all reads receive together.
     pub fn read_together(&self) -> usize {
         let received = |operation: &PlannedOperation| match operation {
             PlannedOperation::Write(_) => 0,
             PlannedOperation::Read(length) => *length,
         };
-        self.calls
-            .iter()
-            .flat_map(|call| &call.operations)
-            .map(received)
-            .sum()
+        self.operations().map(received).sum()
     }
 
     /// A list of the form, where the numbers fit it. Lengths past 16 bits are cut, and so refused.

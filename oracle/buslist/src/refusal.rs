@@ -26,6 +26,11 @@ pub fn causes(list: &[u8], rx: usize) -> Vec<u32> {
     apply.map(|(cause, _)| *cause).collect()
 }
 
+/// Whether a list of so many bytes, calls and operations is over a limit of cause 21, however short its operations are.
+pub fn over_another_limit(bytes: usize, calls: usize, operations: usize) -> bool {
+    bytes > limit::LIST_BYTES || calls > limit::CALLS || operations > limit::OPERATIONS
+}
+
 /// Cause 22 of a frequency, or of a ceiling.
 pub(crate) fn frequency_out(hertz: u64) -> bool {
     !(1..=400_000).contains(&hertz)
@@ -136,13 +141,9 @@ impl Form {
     }
 
     fn over_a_limit(&self, list: &[u8]) -> bool {
-        list.len() > limit::LIST_BYTES
-            || self.calls.len() > limit::CALLS
-            || self.operations.len() > limit::OPERATIONS
-            || self
-                .operations
-                .iter()
-                .any(|o| o.length > limit::OPERATION_BYTES as u64)
+        let too_long = |o: &OperationEntry| o.length > limit::OPERATION_BYTES as u64;
+        over_another_limit(list.len(), self.calls.len(), self.operations.len())
+            || self.operations.iter().any(too_long)
     }
 
     fn a_timeout_overflows(&self) -> bool {
@@ -282,6 +283,42 @@ mod tests {
         assert_eq!(refusal(&plan.bytes(), 9), 0);
     }
 
+    /// "An operation of 258 bytes is within the limit and a list with one of 259 is refused, also when it is a read":
+    /// in calls of every kind, the first operation of a list or not.
+    #[test]
+    fn the_longest_operation() {
+        let one = PlannedOperation::Write(vec![1]);
+        for (length, cause) in [(256, 0), (257, 0), (258, 0), (259, 21), (260, 21)] {
+            let write = PlannedOperation::Write(vec![7; length]);
+            let read = PlannedOperation::Read(length);
+            let calls = [
+                (0, vec![write.clone()]),
+                (1, vec![read.clone()]),
+                (2, vec![write.clone(), PlannedOperation::Read(1)]),
+                (2, vec![one.clone(), read.clone()]),
+                (3, vec![one.clone(), read.clone(), one.clone()]),
+                (3, vec![one.clone(), write.clone()]),
+                (4, vec![write.clone()]),
+                (5, vec![read.clone()]),
+                (6, vec![write.clone(), PlannedOperation::Read(1)]),
+                (6, vec![one.clone(), read.clone()]),
+                (7, vec![one.clone(), write.clone()]),
+                (7, vec![one.clone(), read.clone()]),
+            ];
+            for (kind, operations) in calls {
+                let mut plan = example();
+                let call = PlannedCall {
+                    kind,
+                    operations,
+                    ..plan.calls[0].clone()
+                };
+                plan.calls.push(call);
+                let found = refusal(&plan.bytes(), plan.read_together());
+                assert_eq!(found, cause, "kind {kind}, {length} bytes");
+            }
+        }
+    }
+
     /// Cause 24 of one call: seven bits end at 127, ten at 1,023, and no blocking kind has ten.
     #[test]
     fn addresses() {
@@ -365,9 +402,9 @@ mod tests {
         assert_eq!(combined(vec![read(1), write(1)], 0), [26, 27]);
         assert_eq!(combined(vec![read(1), read(2)], 2), [26]);
         assert_eq!(combined(vec![write(0)], 0), none);
-        assert_eq!(combined(vec![write(4_096), write(4_096)], 0), none);
-        assert_eq!(combined(vec![read(4_096); 17], 69_632), none);
-        assert_eq!(combined(vec![read(4_097), write(1)], 4_097), [21, 27]);
+        assert_eq!(combined(vec![write(258), write(258)], 0), none);
+        assert_eq!(combined(vec![read(258); 255], 65_790), none);
+        assert_eq!(combined(vec![read(259), write(1)], 259), [21, 27]);
     }
 
     /// A write after a read of another call, or of a polling transaction, is no cause.

@@ -11,7 +11,7 @@ use crate::{Case, Ran};
 type Shape = fn(&[PlannedOperation]) -> bool;
 
 /// Shapes of blocking transactions.
-const SHAPES: [(&str, Shape); 10] = [
+const SHAPES: [(&str, Shape); 12] = [
     ("no operation", |all| all.is_empty()),
     ("empty operations alone", |all| {
         !all.is_empty() && all.iter().all(PlannedOperation::is_empty)
@@ -41,18 +41,22 @@ const SHAPES: [(&str, Shape); 10] = [
         parts(all, |operation| matches!(operation, Read(_))) > 1
             && combined(all).last() == Some(&Read(2))
     }),
+    ("a joined write over 258 bytes", |all| {
+        joined_over(all, limit::OPERATION_BYTES, |one| matches!(one, Write(_)))
+    }),
+    ("a joined read over 258 bytes", |all| {
+        joined_over(all, limit::OPERATION_BYTES, |one| matches!(one, Read(_)))
+    }),
 ];
 
 /// Shapes that cost much, and are rare for that.
 const LONG: [(&str, Shape); 3] = [
     ("1,024 operations", |all| all.len() == limit::OPERATIONS),
-    ("a joined write over 4,096 bytes", |all| {
-        let long = |one: &_| matches!(one, Write(bytes) if bytes.len() > limit::OPERATION_BYTES);
-        combined(all).iter().any(long)
+    ("a joined write over 30,000 bytes", |all| {
+        joined_over(all, 30_000, |one| matches!(one, Write(_)))
     }),
     ("a joined read over 65,535 bytes", |all| {
-        let long = |one: &_| matches!(one, Read(length) if *length > 65_535);
-        combined(all).iter().any(long)
+        joined_over(all, 65_535, |one| matches!(one, Read(_)))
     }),
 ];
 
@@ -64,6 +68,16 @@ fn parted(all: &[PlannedOperation], directions: impl Fn(&[PlannedOperation]) -> 
     };
     all.windows(3)
         .any(|three| alone(three) && directions(three))
+}
+
+/// Whether one of the joined operations has this direction and more bytes.
+fn joined_over(
+    all: &[PlannedOperation],
+    bytes: usize,
+    direction: impl Fn(&PlannedOperation) -> bool,
+) -> bool {
+    let joined = combined(all);
+    joined.iter().any(|one| direction(one) && one.len() > bytes)
 }
 
 /// The operations of one direction that are not empty.

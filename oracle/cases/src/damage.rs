@@ -1,9 +1,10 @@
 //! Damage: to the readings of a run, to its buffers, and to lists.
 
-use buslist::{highest, limit, Plan, PlannedCall, PlannedOperation};
+use buslist::{highest, limit, Plan, PlannedCall, PlannedOperation, ENTRY};
 use device::{code, ENTRY_WORDS};
 
-use crate::plans::{empty, scatter};
+use crate::limits::{call_with_operation_of, writes_filling};
+use crate::plans::{empty, insert, scatter};
 use crate::{flag, is_header, Rng, START};
 
 /// A reading that every wait takes as what it waits for, to go on after damage.
@@ -107,45 +108,52 @@ fn add_error_flags(rng: &mut Rng, readings: &mut [u32], places: &[usize]) {
     }
 }
 
-/// Brings a plan over a limit: cause 21.
+/// Brings a plan over a limit: cause 21. Mostly over that of an operation, by one byte or two.
 pub fn exceed(rng: &mut Rng, plan: &mut Plan) {
-    let idle = PlannedCall {
+    let transaction = |operations| PlannedCall {
         kind: 3,
         width: 7,
         address: 0x50,
-        operations: vec![],
+        operations,
     };
-    let many = |operation: PlannedOperation, count: usize| PlannedCall {
-        operations: vec![operation; count],
-        ..idle.clone()
-    };
-    match rng.below(5) {
-        0 => plan.calls.extend(vec![idle; limit::CALLS + 1]),
-        1 => plan
-            .calls
-            .push(many(PlannedOperation::Read(0), limit::OPERATIONS + 1)),
+    let read = PlannedOperation::Read;
+    match rng.below(20) {
+        0 => {
+            let over = rng.pick(&[1, limit::CALLS]);
+            let idle = limit::CALLS + over - plan.calls.len();
+            plan.calls.extend(vec![transaction(vec![]); idle]);
+        }
+        1 => {
+            let over = rng.pick(&[1, limit::OPERATIONS]);
+            let empty = (limit::OPERATIONS + over).saturating_sub(plan.operations().count());
+            plan.calls.push(transaction(vec![read(0); empty]));
+        }
         2 => {
-            let length = rng.pick(&[limit::OPERATION_BYTES + 1, 65_535]);
-            plan.calls.push(many(PlannedOperation::Read(length), 1));
+            let bytes = (limit::LIST_BYTES + 1).saturating_sub(plan.bytes().len() + ENTRY);
+            let writes = writes_filling(rng, bytes);
+            plan.calls.push(transaction(writes));
         }
         3 => {
-            let bytes = rng.bytes(limit::OPERATION_BYTES + 1);
-            plan.calls.push(many(PlannedOperation::Write(bytes), 1));
+            // Far over it, yet within the bytes of a list.
+            let bytes = rng.range(limit::OPERATION_BYTES + 3, 5_000);
+            let operation = match rng.below(3) {
+                0 => PlannedOperation::Write(rng.bytes(bytes)),
+                1 => read(bytes),
+                _ => read(65_535),
+            };
+            plan.calls.push(transaction(vec![operation]));
         }
         _ => {
-            let bytes = rng.bytes(limit::OPERATION_BYTES);
-            plan.calls.push(many(PlannedOperation::Write(bytes), 7));
-            let length = plan.bytes().len();
-            let rest = (limit::LIST_BYTES + 1).saturating_sub(length + 2 * buslist::ENTRY);
-            plan.calls
-                .push(many(PlannedOperation::Write(rng.bytes(rest)), 1));
+            let bytes = limit::OPERATION_BYTES + rng.range(1, 2);
+            let call = call_with_operation_of(rng, bytes);
+            insert(rng, plan, call);
         }
     }
 }
 
 /// Gives a plan one of the causes 22 to 25 and 27.
 pub fn forbid(rng: &mut Rng, plan: &mut Plan) {
-    match rng.below(6) {
+    match rng.below(7) {
         0 => plan.settings.frequency = rng.pick(&[0, 400_001, u32::MAX, 800_000]),
         1 => {
             let mhz = rng.range(1, 4_294) as u32;
@@ -158,8 +166,8 @@ pub fn forbid(rng: &mut Rng, plan: &mut Plan) {
             };
             *timeout = over.saturating_add(rng.pick(&[0, 1, 77]));
         }
-        2 => write_after_read(rng, plan),
-        3 | 4 if !plan.calls.is_empty() => {
+        2 | 3 => write_after_read(rng, plan),
+        4 | 5 if !plan.calls.is_empty() => {
             let any = rng.below(plan.calls.len());
             forbid_address(rng, &mut plan.calls[any]);
         }
@@ -203,7 +211,7 @@ fn forbid_address(rng: &mut Rng, call: &mut PlannedCall) {
 }
 
 /// Gives a plan a blocking transaction with a write after a read, cause 27, in any place among its calls.
-pub fn write_after_read(rng: &mut Rng, plan: &mut Plan) {
+fn write_after_read(rng: &mut Rng, plan: &mut Plan) {
     let read = PlannedOperation::Read(rng.range(1, 4));
     let length = rng.range(1, 4);
     let write = PlannedOperation::Write(rng.bytes(length));
@@ -218,7 +226,7 @@ pub fn write_after_read(rng: &mut Rng, plan: &mut Plan) {
         address: 0x50,
         operations: scatter(rng, &whole),
     };
-    plan.calls.insert(rng.below(plan.calls.len() + 1), call);
+    insert(rng, plan, call);
 }
 
 fn empty_write() -> PlannedCall {
@@ -296,5 +304,44 @@ fn alter_entry(rng: &mut Rng, list: &mut [u8]) {
         let entries = (list.len() - buslist::HEADER).min(256);
         let at = buslist::HEADER + rng.below(entries);
         list[at] = rng.pick(&[0, 1, 2, 3, 4, 5, 6, 7, 8, 10]);
+    }
+}
+
+#[cfg(test)]
+mod tests {
+    use super::*;
+    use crate::plan;
+
+    /// Each limit is exceeded by one, with all others kept: 257 calls, 1,025 operations, a list of 32,769 bytes, an
+    /// operation of 259.
+    #[test]
+    fn each_limit_is_exceeded_by_one() {
+        let limits = [
+            limit::CALLS,
+            limit::OPERATIONS,
+            limit::LIST_BYTES,
+            limit::OPERATION_BYTES,
+        ];
+        let mut exceeded = [false; 4];
+        for case in 0..20_000 {
+            let rng = &mut Rng::of(6, case);
+            let mut plan = plan(rng);
+            exceed(rng, &mut plan);
+            let list = plan.bytes();
+            let refused = buslist::refusal(&list, plan.read_together());
+            assert_eq!(refused, 21, "case {case}");
+            let longest = plan.operations().map(PlannedOperation::len).max();
+            let sizes = [
+                plan.calls.len(),
+                plan.operations().count(),
+                list.len(),
+                longest.unwrap_or(0),
+            ];
+            let over: Vec<usize> = (0..4).filter(|&at| sizes[at] > limits[at]).collect();
+            if let [at] = over[..] {
+                exceeded[at] |= sizes[at] == limits[at] + 1;
+            }
+        }
+        assert_eq!(exceeded, [true; 4]);
     }
 }

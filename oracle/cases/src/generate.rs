@@ -9,6 +9,8 @@ use crate::{damage, plans, Case, Feed, Rng, Style};
 
 /// Words of the record that a simulated run may fill.
 const SIMULATED: usize = 1 << 20;
+/// Bytes of the received buffer that the program `busrun` has.
+const BUSRUN: usize = 4_096;
 
 /// The case of this number under this seed.
 pub fn generate(seed: u64, number: u64) -> Case {
@@ -16,13 +18,14 @@ pub fn generate(seed: u64, number: u64) -> Case {
     let mut plan = plans::plan(rng);
     let lists = rng.below(100);
     match lists {
-        0 => {
+        0..=3 => {
             damage::exceed(rng, &mut plan);
-            if rng.percent(20) {
-                damage::write_after_read(rng, &mut plan);
+            // Some have a higher cause, too.
+            if rng.percent(30) {
+                damage::forbid(rng, &mut plan);
             }
         }
-        1..=4 => {
+        4..=7 => {
             for _ in 0..rng.pick(&[1, 1, 2]) {
                 damage::forbid(rng, &mut plan);
             }
@@ -31,13 +34,14 @@ pub fn generate(seed: u64, number: u64) -> Case {
     }
     let together = plan.read_together();
     let mut list = plan.bytes();
-    if (3..=13).contains(&lists) {
+    // Some of those with a cause by now, 21 among them, are damaged as well.
+    if matches!(lists, 3 | 6..=15) {
         damage::damage_list(rng, &mut list);
     }
     let rx = match rng.below(20) {
         0 => rng.below(together + 1),
         1..=4 => together + rng.range(1, 9),
-        5 => 4_096.max(together),
+        5 => BUSRUN.max(together),
         _ => together,
     };
     if refusal(&list, rx) == 0 {

@@ -2,6 +2,7 @@
 
 use buslist::{highest, limit, Mode, Plan, PlannedCall, PlannedOperation, Settings};
 
+use crate::limits::{add_long_call, lengthen};
 use crate::Rng;
 
 /// A plan of a list that is accepted.
@@ -27,8 +28,10 @@ pub fn plan(rng: &mut Rng) -> Plan {
         settings,
         calls: (0..calls).map(|_| call(rng, kinds, ten_bit)).collect(),
     };
-    if rng.below(150) == 0 {
-        lengthen(rng, &mut plan);
+    match rng.below(200) {
+        0 => lengthen(rng, &mut plan),
+        1..=16 => add_long_call(rng, &mut plan),
+        _ => {}
     }
     plan
 }
@@ -108,6 +111,16 @@ fn call(rng: &mut Rng, kinds: &[u8], ten_bit: usize) -> PlannedCall {
         6 => vec![write(rng, 0), PlannedOperation::Read(length(rng, 0))],
         _ => combined(rng),
     };
+    to_an_address(rng, kind, ten_bit, operations)
+}
+
+/// A call of this kind and with these operations, of a hundred polling ones so many to a ten-bit address.
+pub fn to_an_address(
+    rng: &mut Rng,
+    kind: u8,
+    ten_bit: usize,
+    operations: Vec<PlannedOperation>,
+) -> PlannedCall {
     let (width, address) = if kind < 4 && rng.percent(ten_bit) {
         (10, ten_bit_address(rng))
     } else {
@@ -142,7 +155,8 @@ fn ten_bit_address(rng: &mut Rng) -> u16 {
     }
 }
 
-fn transaction(rng: &mut Rng) -> Vec<PlannedOperation> {
+/// The operations of a polling transaction.
+pub fn transaction(rng: &mut Rng) -> Vec<PlannedOperation> {
     let count = rng.pick(&[0, 1, 1, 2, 2, 3, 3, 4, 5, 8]);
     let mut operations: Vec<_> = (0..count).map(|_| operation(rng)).collect();
     if let Some(last @ PlannedOperation::Read(0)) = operations.last_mut() {
@@ -153,8 +167,9 @@ fn transaction(rng: &mut Rng) -> Vec<PlannedOperation> {
     operations
 }
 
-/// A blocking transaction that is accepted: a write and a read after it, one of them or neither, scattered.
-fn combined(rng: &mut Rng) -> Vec<PlannedOperation> {
+/// The operations of a blocking transaction that is accepted: a write and a read after it, one of them or neither,
+/// scattered.
+pub fn combined(rng: &mut Rng) -> Vec<PlannedOperation> {
     let whole = match rng.below(10) {
         0 => vec![],
         1..=3 => vec![write(rng, 1)],
@@ -201,12 +216,12 @@ fn operation(rng: &mut Rng) -> PlannedOperation {
     }
 }
 
-fn write(rng: &mut Rng, least: usize) -> PlannedOperation {
+pub fn write(rng: &mut Rng, least: usize) -> PlannedOperation {
     let length = length(rng, least);
     PlannedOperation::Write(rng.bytes(length))
 }
 
-fn length(rng: &mut Rng, least: usize) -> usize {
+pub fn length(rng: &mut Rng, least: usize) -> usize {
     match rng.below(100) {
         0..=79 => rng.range(least, 4),
         80..=97 => rng.range(least, 9),
@@ -214,72 +229,9 @@ fn length(rng: &mut Rng, least: usize) -> usize {
     }
 }
 
-/// Brings a plan to a limit: the longest operation, the most operations, the longest list, or a blocking
-/// transaction longer than an operation can be.
-fn lengthen(rng: &mut Rng, plan: &mut Plan) {
-    // Few enough that the bytes written below fit the list.
-    plan.calls.truncate(rng.pick(&[0, 2, 6]));
-    let listed = plan.calls.iter().map(|call| call.operations.len());
-    let room = limit::OPERATIONS - listed.sum::<usize>();
-    let (kind, operations) = long_call(rng, room);
-    let (width, address) = if kind == 3 && rng.percent(50) {
-        (10, 0x350)
-    } else {
-        (7, 0x50)
-    };
-    plan.calls.push(PlannedCall {
-        kind,
-        width,
-        address,
-        operations,
-    });
-    let bytes = plan.bytes().len();
-    if bytes > 28_000 && bytes < limit::LIST_BYTES - buslist::ENTRY {
-        let rest = limit::LIST_BYTES - buslist::ENTRY - bytes;
-        let last = plan.calls.len() - 1;
-        plan.calls[last]
-            .operations
-            .push(PlannedOperation::Write(rng.bytes(rest)));
-    }
-}
-
-/// The kind and the operations of a long call, of which there may be so many.
-fn long_call(rng: &mut Rng, room: usize) -> (u8, Vec<PlannedOperation>) {
-    match rng.below(8) {
-        0 => (3, vec![PlannedOperation::Read(limit::OPERATION_BYTES)]),
-        1 => (3, vec![PlannedOperation::Read(1); room]),
-        2 => (3, longest_writes(rng)),
-        3 => (7, longest_writes(rng)),
-        4 | 5 => (7, most_operations(rng, room)),
-        6 => {
-            let written = rng.range(limit::OPERATION_BYTES + 1, 3 * limit::OPERATION_BYTES);
-            let write = PlannedOperation::Write(rng.bytes(written));
-            let read = PlannedOperation::Read(length(rng, 0));
-            (7, scatter(rng, &[write, read]))
-        }
-        _ => {
-            // Cut to 16 bits, some of these would be reads of 0, 1, 2 and 3.
-            let received = 65_536 + rng.pick(&[0, 1, 2, 3, 4_096]);
-            (7, scatter(rng, &[PlannedOperation::Read(received)]))
-        }
-    }
-}
-
-fn longest_writes(rng: &mut Rng) -> Vec<PlannedOperation> {
-    (0..7)
-        .map(|_| PlannedOperation::Write(rng.bytes(limit::OPERATION_BYTES)))
-        .collect()
-}
-
-/// A blocking transaction of so many operations: parts of a write, then parts of a read, empty ones among both.
-fn most_operations(rng: &mut Rng, count: usize) -> Vec<PlannedOperation> {
-    let written = rng.below(count + 1);
-    let part = |at| match rng.below(3) {
-        0 => empty(rng),
-        length if at < written => PlannedOperation::Write(rng.bytes(length)),
-        length => PlannedOperation::Read(length),
-    };
-    (0..count).map(part).collect()
+/// Puts a call in any place among those of a plan.
+pub fn insert(rng: &mut Rng, plan: &mut Plan, call: PlannedCall) {
+    plan.calls.insert(rng.below(plan.calls.len() + 1), call);
 }
 
 #[cfg(test)]
@@ -288,17 +240,13 @@ mod tests {
 
     #[test]
     fn plans_are_accepted_and_reach_the_limits() {
-        let mut reached = [false; 9];
+        let mut reached = [false; 10];
         for case in 0..20_000 {
             let plan = plan(&mut Rng::of(2, case));
             let list = plan.bytes();
             let refused = buslist::refusal(&list, plan.read_together());
             assert_eq!(refused, 0, "case {case}");
-            let operations: Vec<_> = plan
-                .calls
-                .iter()
-                .flat_map(|call| &call.operations)
-                .collect();
+            let operations: Vec<_> = plan.operations().collect();
             let longest = operations.iter().map(|operation| operation.len()).max();
             reached[0] |= list.len() == limit::LIST_BYTES;
             reached[1] |= plan.calls.len() == limit::CALLS;
@@ -317,8 +265,9 @@ mod tests {
                 reached[5] |= list.len() == limit::LIST_BYTES;
                 // Cut to 16 bits it would be a read of one.
                 reached[6] |= longest == Some(65_537);
+                reached[9] |= longest == Some(limit::OPERATION_BYTES + 1);
             }
         }
-        assert_eq!(reached, [true; 9]);
+        assert_eq!(reached, [true; 10]);
     }
 }

@@ -5,6 +5,7 @@ use std::fmt;
 use buslist::{Call, List};
 
 use crate::combined::Combined;
+use crate::longest::Longest;
 use crate::ten::TenBit;
 use crate::{Case, Ran};
 
@@ -28,6 +29,8 @@ pub struct Tally {
     combined: Combined,
     /// Lists with ten-bit calls.
     ten_bit: TenBit,
+    /// Lists with an operation near the limit.
+    longest: Longest,
 }
 
 fn row(call: &Call) -> usize {
@@ -77,6 +80,7 @@ impl Tally {
         self.answers[answer as usize] += 1;
         self.combined.count(case, ran);
         self.ten_bit.count(case, ran);
+        self.longest.count(case, ran);
         if REFUSALS.contains(&answer) {
             return;
         }
@@ -127,10 +131,11 @@ impl Tally {
         }
         short.extend(self.combined.shortfalls());
         short.extend(self.ten_bit.shortfalls());
+        short.extend(self.longest.shortfalls());
         short
     }
 
-    /// Endings seen that this file says cannot be.
+    /// Endings seen that this file says cannot be, and what contradicts document 02's sentence on the longest operation.
     pub fn impossible(&self) -> Vec<String> {
         let seen =
             |row: usize, ending: usize| self.endings[row][ending] > 0 && !can_end(row, ending);
@@ -138,6 +143,7 @@ impl Tally {
             .flat_map(|row| (0..ENDINGS).map(move |ending| (row, ending)))
             .filter(|&(row, ending)| seen(row, ending))
             .map(|(row, ending)| format!("{} ending {ending} was met", name(row)))
+            .chain(self.longest.impossible())
             .collect()
     }
 }
@@ -167,7 +173,7 @@ impl fmt::Display for Tally {
         for count in self.bring_up {
             write!(f, "{count:8}")?;
         }
-        write!(f, "\n{}\n{}", self.combined, self.ten_bit)
+        write!(f, "\n{}\n{}\n{}", self.combined, self.ten_bit, self.longest)
     }
 }
 

@@ -7,7 +7,7 @@ use cases::{generate, judge, run_list, Case, Ran};
 
 type Joining = fn(&[PlannedOperation]) -> Vec<PlannedOperation>;
 
-const WRONG: [(&str, Joining); 7] = [
+const WRONG: [(&str, Joining); 8] = [
     ("the first part for all of a joined operation", |all| {
         let mut full: Vec<_> = all.iter().filter(|one| !one.is_empty()).cloned().collect();
         full.dedup_by_key(|one| matches!(one, Read(_)));
@@ -26,8 +26,11 @@ const WRONG: [(&str, Joining); 7] = [
     ("no read after a write", |all| {
         combined(all).into_iter().take(1).collect()
     }),
-    ("a write cut to 4,096 bytes", |all| {
+    ("a write cut to 258 bytes", |all| {
         cut(all, limit::OPERATION_BYTES, usize::MAX)
+    }),
+    ("a read cut to 258 bytes", |all| {
+        cut(all, usize::MAX, limit::OPERATION_BYTES)
     }),
     ("a read cut to 65,535 bytes", |all| {
         cut(all, usize::MAX, 65_535)
@@ -79,7 +82,7 @@ fn run(case: &Case, joining: Joining) -> Option<Ran> {
             ..call.clone()
         };
     }
-    let operations = plan.calls.iter().flat_map(|call| &call.operations);
+    let operations = plan.operations();
     if operations.map(PlannedOperation::len).max() > Some(usize::from(u16::MAX)) {
         return None;
     }

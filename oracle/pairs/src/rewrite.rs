@@ -70,15 +70,7 @@ pub fn alike(rng: &mut Rng, plan: &Plan) -> Plan {
             };
         }
     }
-    let operations: usize = other.calls.iter().map(|call| call.operations.len()).sum();
-    let within = operations <= limit::OPERATIONS && other.bytes().len() <= limit::LIST_BYTES;
-    if within
-        && other
-            .calls
-            .iter()
-            .flat_map(|call| &call.operations)
-            .all(short)
-    {
+    if other.operations().count() <= limit::OPERATIONS && other.bytes().len() <= limit::LIST_BYTES {
         other
     } else {
         plan.clone()
@@ -104,10 +96,12 @@ fn polling(rng: &mut Rng, call: &PlannedCall) -> PlannedCall {
     }
 }
 
-/// Puts an operation after others: joined to the last, in two parts, beside an empty one, or as it is.
+/// Puts an operation after others: joined to the last where one may be so long, in two parts, beside an empty one, or
+/// as it is.
 fn push(rng: &mut Rng, operations: &mut Vec<PlannedOperation>, operation: &PlannedOperation) {
     use PlannedOperation::{Read, Write};
-    let join = rng.percent(50);
+    let together = operations.last().map_or(0, PlannedOperation::len) + operation.len();
+    let join = together <= limit::OPERATION_BYTES && rng.percent(50);
     let at = rng.below(operation.len() + 1);
     match (operations.last_mut(), operation) {
         (Some(Write(bytes)), Write(more)) if join => bytes.extend_from_slice(more),
@@ -128,7 +122,9 @@ fn push(rng: &mut Rng, operations: &mut Vec<PlannedOperation>, operation: &Plann
 fn blocking(rng: &mut Rng, call: &PlannedCall) -> PlannedCall {
     use PlannedOperation::{Read, Write};
     let whole = combined(&call.operations);
-    let fits = whole.iter().all(short);
+    let fits = whole
+        .iter()
+        .all(|operation| operation.len() <= limit::OPERATION_BYTES);
     let (kind, operations) = match (rng.below(3), &whole[..]) {
         (0, [write @ Write(_)]) if fits => (6, vec![write.clone(), Read(0)]),
         (0, [read @ Read(_)]) if fits => (6, vec![Write(vec![]), read.clone()]),
@@ -140,9 +136,4 @@ fn blocking(rng: &mut Rng, call: &PlannedCall) -> PlannedCall {
         operations,
         ..call.clone()
     }
-}
-
-/// Whether an operation is within the limit of one.
-fn short(operation: &PlannedOperation) -> bool {
-    operation.len() <= limit::OPERATION_BYTES
 }

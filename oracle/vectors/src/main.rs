@@ -6,7 +6,7 @@ use std::collections::BTreeMap;
 use std::process::ExitCode;
 
 use buslist::List;
-use cases::{ended_in, generate, judge, wait_met, why_out, Case, Ran};
+use cases::{ended_in, generate, judge, longest_met, wait_met, why_out, Case, Ran};
 
 /// Cases of this seed that are looked at.
 const LOOKED_AT: u64 = 200_000;
@@ -16,10 +16,11 @@ const LONGEST: usize = 600;
 const ROOM: usize = 4_096;
 const WORDS: usize = 2_048;
 /// Cases kept of each ending: of a call of one kind and width, of a run that ends well, with ten-bit calls or without,
-/// and of a refusal.
+/// of a refusal, and of a call or a refusal with an operation near the limit.
 const OF_A_CALL: usize = 4;
 const WELL: usize = 40;
 const OF_A_REFUSAL: usize = 8;
+const OF_A_LENGTH: usize = 1;
 
 fn main() -> ExitCode {
     let mut words = std::env::args().skip(1);
@@ -40,21 +41,16 @@ fn main() -> ExitCode {
         if vector.len() > LONGEST || case.rx > ROOM || case.record > WORDS {
             continue;
         }
-        let most = match ran.answer() {
-            0 => WELL,
-            1..=10 => OF_A_CALL,
-            _ => OF_A_REFUSAL,
-        };
-        let ending = (ran.answer(), place(&case, &ran));
-        let count = kept.entry(ending).or_default();
+        let (ending, most) = kept_for(&case, &ran);
+        let count = kept.entry((ran.answer(), ending)).or_default();
         if *count < most {
             *count += 1;
             stored.extend(vector);
         }
     }
 
-    for ((answer, place), count) in &kept {
-        println!("answer {answer}{place}: {count}");
+    for ((answer, ending), count) in &kept {
+        println!("answer {answer}{ending}: {count}");
     }
     let bytes: Vec<u8> = stored.iter().flat_map(|word| word.to_le_bytes()).collect();
     let cases: usize = kept.values().sum();
@@ -64,6 +60,19 @@ fn main() -> ExitCode {
     }
     println!("{cases} cases, {} bytes", bytes.len());
     ExitCode::SUCCESS
+}
+
+/// What a case is kept for, and how many are: the longest operation that is met, or else where its run ended.
+fn kept_for(case: &Case, ran: &Ran) -> (String, usize) {
+    if let Some(long) = longest_met(case, ran) {
+        return (format!(" with a {long}"), OF_A_LENGTH);
+    }
+    let most = match ran.answer() {
+        0 => WELL,
+        1..=10 => OF_A_CALL,
+        _ => OF_A_REFUSAL,
+    };
+    (place(case, ran), most)
 }
 
 /// Where a run ended, for the choice of cases: in which call, or what a list has or lacks.
