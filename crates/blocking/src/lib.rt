@@ -41,6 +41,7 @@ fn read_wait(bus: &mut Bus, flag: u32) -> Result<(), Stop>
 // The next byte of a read.
 #[inline(always)]
 fn receive(bus: &mut Bus) -> Result<(), Stop>
+    requires { bus.old.progress.got ≤ bus.old.progress.used }
     ensures { Does (receive bus.old.setup) bus.old bus.new result }
 {
     read_wait(bus, registers::RXNE)?;
@@ -69,6 +70,7 @@ fn one_ready(bus: &mut Bus) -> Result<(), Stop>
 // A read of one byte, once the address is sent.
 // No mark to inline it: its caller would lose its own (docs/DECISIONS.md, "Marks to inline").
 fn read_one(bus: &mut Bus) -> Result<(), Stop>
+    requires { bus.old.progress.got ≤ bus.old.progress.used }
     ensures { Does (read_one bus.old.setup) bus.old bus.new result }
 {
     one_ready(bus)?;
@@ -90,6 +92,7 @@ fn two_ready(bus: &mut Bus) -> Result<(), Stop>
 // STOP, and both bytes.
 #[inline(always)]
 fn two_bytes(bus: &mut Bus) -> Result<(), Stop>
+    requires { bus.old.progress.got ≤ bus.old.progress.used }
     ensures { Does two_bytes bus.old bus.new result }
 {
     send_stop(bus)?;
@@ -110,6 +113,7 @@ fn two_end(bus: &mut Bus) -> Result<(), Stop>
 // A read of two bytes, once the address is sent.
 #[inline(always)]
 fn read_two(bus: &mut Bus) -> Result<(), Stop>
+    requires { bus.old.progress.got ≤ bus.old.progress.used }
     ensures { Does (read_two bus.old.setup) bus.old bus.new result }
 {
     two_ready(bus)?;
@@ -121,7 +125,9 @@ fn read_two(bus: &mut Bus) -> Result<(), Stop>
 // `receive`: at most one byte of a read is looked at ahead in vain.
 #[inline(always)]
 fn receive_ready(bus: &mut Bus, count: usize) -> usize
-    ensures { (result ≤ count) × Reaches (receive_bytes bus.old.setup count) bus.old (receive_bytes bus.old.setup (count - result)) bus.new }
+    requires { bus.old.progress.got ≤ bus.old.progress.used }
+    ensures bytes { (result ≤ count) × Reaches (receive_bytes bus.old.setup count) bus.old (receive_bytes bus.old.setup (count - result)) bus.new }
+    ensures fewer { bus.new.progress.got ≤ bus.new.progress.used }
 {
     let fit = bus.bytes_that_fit(count);
     for i in 0..fit {
@@ -138,6 +144,7 @@ fn receive_ready(bus: &mut Bus, count: usize) -> usize
 // So many bytes of a read, one after the other.
 #[inline(always)]
 fn receive_bytes(bus: &mut Bus, count: usize) -> Result<(), Stop>
+    requires { bus.old.progress.got ≤ bus.old.progress.used }
     ensures { Does (receive_bytes bus.old.setup count) bus.old bus.new result }
 {
     let ready = receive_ready(bus, count);
@@ -150,6 +157,7 @@ fn receive_bytes(bus: &mut Bus, count: usize) -> Result<(), Stop>
 // The third last byte: NACK before it is taken.
 #[inline(always)]
 fn third_last(bus: &mut Bus) -> Result<(), Stop>
+    requires { bus.old.progress.got ≤ bus.old.progress.used }
     ensures { Does (third_last bus.old.setup) bus.old bus.new result }
 {
     read_wait(bus, registers::BTF)?;
@@ -160,6 +168,7 @@ fn third_last(bus: &mut Bus) -> Result<(), Stop>
 // The second last byte: STOP before it is taken.
 #[inline(always)]
 fn second_last(bus: &mut Bus) -> Result<(), Stop>
+    requires { bus.old.progress.got ≤ bus.old.progress.used }
     ensures { Does second_last bus.old bus.new result }
 {
     send_stop(bus)?;
@@ -169,6 +178,7 @@ fn second_last(bus: &mut Bus) -> Result<(), Stop>
 // The last three bytes.
 #[inline(always)]
 fn last_three(bus: &mut Bus) -> Result<(), Stop>
+    requires { bus.old.progress.got ≤ bus.old.progress.used }
     ensures { Does (last_three bus.old.setup) bus.old bus.new result }
 {
     third_last(bus)?;
@@ -188,6 +198,7 @@ fn more_ready(bus: &mut Bus) -> Result<(), Stop>
 
 // A read of three bytes or more, once the address is sent. `count` leaves out the last three.
 fn read_more(bus: &mut Bus, count: usize) -> Result<(), Stop>
+    requires { bus.old.progress.got ≤ bus.old.progress.used }
     ensures { Does (read_more bus.old.setup count) bus.old bus.new result }
 {
     more_ready(bus)?;
@@ -198,7 +209,7 @@ fn read_more(bus: &mut Bus, count: usize) -> Result<(), Stop>
 // The arms of `read`, by its length.
 #[inline(always)]
 fn read_arm(bus: &mut Bus, count: usize) -> Result<(), Stop>
-    requires { 0 < count }
+    requires { (bus.old.progress.got ≤ bus.old.progress.used) × (0 < count) }
     ensures { Does (read_arm bus.old.setup count) bus.old bus.new result }
 {
     match count {
@@ -210,6 +221,7 @@ fn read_arm(bus: &mut Bus, count: usize) -> Result<(), Stop>
 
 // A read; an empty one does nothing.
 pub fn read(bus: &mut Bus, addr: u16, count: usize) -> Result<(), Stop>
+    requires { bus.old.progress.got ≤ bus.old.progress.used }
     ensures { Does (read_steps bus.old.setup addr count) bus.old bus.new result }
 {
     if count == 0 {

@@ -1,4 +1,4 @@
-// Words out of bytes, accesses out of a record, and runs on buffers of their own, for the programs.
+// Words out of bytes, accesses out of a record, and runs that are compared, for the programs.
 #![tactic(auto)]
 
 ghost use Rattle.std.specs.Prelude.{◌≡◌, ◌++◌, ◌<◌, ◌/◌, length, min, take, MatchOption};

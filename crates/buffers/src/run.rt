@@ -1,13 +1,12 @@
-// A run on buffers of its own, beside what it should do.
+// A run on buffers that are lent to it, beside what it should do.
 
-ghost use Rattle.std.specs.Prelude.{◌≡◌, ℕ, List, length, take, IsOk, IfOk};
+ghost use Rattle.std.specs.Prelude.{◌≡◌, ◌≤◌, ℕ, List, length, take, IsOk};
 ghost use Rattle.registers.specs.Access.{words_in};
 ghost use Rattle.engine.specs.Run.{RunsTo, in_order};
 
 use crate::first;
 use engine::Counts;
 use registers::ENTRY_WORDS;
-use std::alloc::{AllocError, Global};
 use std::fmt;
 
 // What the received buffer has at `at` before a run. Neighbours differ, so that a byte moved from elsewhere shows too.
@@ -64,36 +63,54 @@ pub fn counts_of(numbers: [u32; 5]) -> Counts
     }
 }
 
+// Fills both buffers with what they have before a run.
+fn fill(rx: &mut [u8], log: &mut [u32])
+    ensures rx { length rx.new ≡ length rx.old }
+    ensures log { length log.new ≡ length log.old }
+{
+    for (at, byte) in rx.iter_mut().enumerate() {
+        *byte = old_byte(at);
+    }
+    for (at, word) in log.iter_mut().enumerate() {
+        *word = old_word(at);
+    }
+}
+
 // A run that is over: its two buffers as it left them, and how it ended.
 #[derive(Drop)]
-pub struct Run {
-    rx: Vec<u8>,
-    log: Vec<u32>,
+pub struct Run<'a> {
+    rx: &'a [u8],
+    log: &'a [u32],
     counts: Counts,
 }
 
-impl Run {
-    // Runs the list on a received buffer of `room` bytes and a record of `words` words.
+impl<'a> Run<'a> {
+    // Runs the list on a received buffer of `room` bytes and a record of `words` words, which are parts of these two. Where
+    // either is too short for that, both are taken whole.
     pub fn on(
-        alloc: Global,
         list: &[u8],
         readings: &[u32],
+        rx: &'a mut [u8],
         room: usize,
+        log: &'a mut [u32],
         words: usize,
-    ) -> Result<Run, AllocError>
-        ensures { IfOk result (λ run. (rx log : List ℕ) × (length rx ≡ room) × (length log ≡ words)
-            × RunsTo list.now readings.now rx log run.rx.items run.log.items run.counts) }
+    ) -> Run<'a>
+        ensures { room ≤ length rx.old → words ≤ length log.old → (rx' log' : List ℕ) × (length rx' ≡ room) × (length log' ≡ words)
+            × RunsTo list.now readings.now rx' log' result.rx.now result.log.now result.counts }
     {
-        let rx = (0..room).map(old_byte).collect(alloc)?;
-        let log = (0..words).map(old_word).collect(alloc)?;
-        Ok(Run::over(list, readings, rx, log))
+        if room <= rx.len() && words <= log.len() {
+            return Run::over(list, readings, &mut rx[..room], &mut log[..words]);
+        }
+        Run::over(list, readings, rx, log)
     }
 
     // The run on these buffers.
-    fn over(list: &[u8], readings: &[u32], mut rx: Vec<u8>, mut log: Vec<u32>) -> Run
-        ensures { RunsTo list.now readings.now rx.items log.items result.rx.items result.log.items result.counts }
+    fn over(list: &[u8], readings: &[u32], rx: &'a mut [u8], log: &'a mut [u32]) -> Run<'a>
+        ensures { (rx' log' : List ℕ) × (length rx' ≡ length rx.old) × (length log' ≡ length log.old)
+            × RunsTo list.now readings.now rx' log' result.rx.now result.log.now result.counts }
     {
-        let counts = engine::run(list, readings, &mut rx, &mut log);
+        fill(rx, log);
+        let counts = engine::run(list, readings, rx, log);
         Run { rx, log, counts }
     }
 
@@ -105,16 +122,16 @@ impl Run {
 
     // The words of the accesses that were made.
     pub fn record(&self) -> &[u32]
-        ensures { result.now ≡ take (words_in self.now.counts.made) self.now.log.items }
+        ensures { result.now ≡ take (words_in self.now.counts.made) self.now.log.now }
     {
-        first(&self.log, self.counts.made.saturating_mul(ENTRY_WORDS))
+        first(self.log, self.counts.made.saturating_mul(ENTRY_WORDS))
     }
 
     // The bytes that were received.
     pub fn received(&self) -> &[u8]
-        ensures { result.now ≡ take self.now.counts.got self.now.rx.items }
+        ensures { result.now ≡ take self.now.counts.got self.now.rx.now }
     {
-        first(&self.rx, self.counts.got)
+        first(self.rx, self.counts.got)
     }
 
     // Whether both buffers are as they were past what the run put there.
@@ -130,8 +147,8 @@ impl Run {
     // Whether the run did what was expected, and nothing else.
     pub fn compare(&self, expected: Expected<'_>) -> Result<(), Difference>
         ensures counts { IsOk result → self.now.counts ≡ expected.entry.counts }
-        ensures record { IsOk result → take (words_in self.now.counts.made) self.now.log.items ≡ expected.entry.record.now }
-        ensures received { IsOk result → take self.now.counts.got self.now.rx.items ≡ expected.entry.received.now }
+        ensures record { IsOk result → take (words_in self.now.counts.made) self.now.log.now ≡ expected.entry.record.now }
+        ensures received { IsOk result → take self.now.counts.got self.now.rx.now ≡ expected.entry.received.now }
     {
         if self.counts.answer != expected.counts.answer {
             Err(Difference::Answer)

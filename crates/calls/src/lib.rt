@@ -40,6 +40,7 @@ fn polling_operation(
     previous: Previous,
     last: bool,
 ) -> Result<(), Stop>
+    requires { bus.old.progress.got ≤ bus.old.progress.used }
     ensures { Does (polling_entry call previous last (operation_of list.now o)) bus.old bus.new result }
 {
     let read = !o.is_write();
@@ -63,6 +64,7 @@ fn blocking_operation(
     call: CallEntry,
     o: OperationEntry,
 ) -> Result<(), Stop>
+    requires { bus.old.progress.got ≤ bus.old.progress.used }
     ensures { Does (blocking_operation bus.old.setup call.address (operation_of list.now o)) bus.old bus.new result }
 {
     if o.is_write() {
@@ -81,6 +83,7 @@ fn operation(
     previous: Previous,
     last: bool,
 ) -> Result<(), Stop>
+    requires { bus.old.progress.got ≤ bus.old.progress.used }
     ensures { Does (entry_steps bus.old.setup call previous last (operation_of list.now o)) bus.old bus.new result }
 {
     match call.engine() {
@@ -146,8 +149,7 @@ fn run_on(
     progress: Progress,
 ) -> (Progress, Stopped)
     requires { ((x : ℕ) × (refusal list.now x ≡ 0)) × (progress.got ≤ progress.used) }
-    ensures ends { EndsCalls setup list.now (at readings.now log.old rx.old progress) (at readings.now log.new rx.new result.0) result.1 }
-    ensures fewer { result.0.got ≤ result.0.used }
+    ensures { EndsCalls setup list.now (at readings.now log.old rx.old progress) (at readings.now log.new rx.new result.0) result.1 }
 {
     let count = list.call_count();
     let mut bus = Bus::from_parts(setup, readings, log, rx, progress);
@@ -181,7 +183,7 @@ fn run_on(
 
 // The calls of a list that is accepted with a received buffer of some length.
 pub fn run_calls(bus: &mut Bus, list: &BusList<'_>) -> Stopped
-    requires { (x : ℕ) × (refusal list.now x ≡ 0) }
+    requires { ((x : ℕ) × (refusal list.now x ≡ 0)) × (bus.old.progress.got ≤ bus.old.progress.used) }
     ensures { RunsCalls list.now bus.old bus.new result }
 {
     let (progress, stopped) = run_on(

@@ -6,91 +6,160 @@
 //   z N                   N zero bytes
 //   !                     runs the case on what was read so far
 //
-// A letter holds until the next letter, and a program may have more of them.
-// Blanks part the words, and '#' starts a comment to the line's end. A number is decimal, or hexadecimal after 0x, and
-// has at most 32 bits; of one that is too large for its letter the low bytes are taken.
+// A letter holds until the next letter, and a program may have more of them. Of a word the first byte tells what it is.
+// Blanks part the words, and a word that starts with '#' starts a comment to the line's end. A number is decimal, or
+// hexadecimal after 0x; of one that is too large for its letter the low bytes are taken.
 #![tactic(auto)]
 
-ghost use Rattle.std.specs.Prelude.{ℕ, List, Some, ◌≡◌, ◌↔◌, ◌+◌, ◌-◌, ◌^◌, ◌%◌, [], ◌∷◌, ◌++◌, length, take, replicate, codes, min, IsTrue, IsFalse, OnOk};
-ghost use Rattle.std.specs.Int.{to_le_bytes, w32};
+ghost use Rattle.std.specs.Prelude.{ℕ, List, Some, ◌≡◌, ◌↔◌, ◌+◌, ◌-◌, ◌^◌, ◌%◌, ◌<◌, [], ◌∷◌, ◌++◌, length, take, replicate, min, IsTrue, IsFalse};
+ghost use Rattle.std.specs.Int.{to_le_bytes, w64};
+ghost use Rattle.cases.specs.Items.{items, capacity};
 ghost use Rattle.cases.specs.declared.Letter.{Letter};
 
-use std::alloc::{AllocError, Global};
-use std::io::ErrorKind;
+mod filled;
+
+pub use filled::Filled;
 use std::{fmt, io};
 
-// The line without its comment.
-fn uncommented(line: &str) -> &str {
-    line.split_once('#').map_or(line, |(before, _)| before)
+// What a digit stands for, a hexadecimal one too; 0 for any other byte.
+fn digit(byte: u8) -> u64
+    ensures { result < 16 }
+{
+    match byte {
+        b'0'..=b'9' => (byte - b'0') as u64,
+        b'a'..=b'f' => (byte - b'a') as u64 + 10,
+        _ => 0,
+    }
 }
 
-// The number that a word spells. A word that spells none of 32 bits is an error.
-fn number(word: &str) -> io::Result<u32> {
-    match word.strip_prefix("0x") {
-        Some(digits) => u32::from_str_radix(digits, 16),
-        None => word.parse::<u32>(),
+// The number that a word spells. The 0x in front of a hexadecimal one counts as two zeros, and digits past what 32 bits
+// can hold are dropped, so that nothing wraps.
+fn number(word: &[u8]) -> u64 {
+    let base = if word.get(1) == Some(&b'x') { 16 } else { 10 };
+    let mut number = 0u64;
+    for byte in word {
+        if number < 4294967296 {
+            number = number * base + digit(*byte);
+        }
     }
-    .map_err(|_| io::Error::from(ErrorKind::InvalidData))
+    number
 }
 
 // What a program makes of the words of its cases.
-pub trait Case: Drop {
+pub trait Case {
     // What the numbers after a letter are.
     type Letter: Copy;
+
+    // Whether a letter holds past the start of the next case.
+    const LETTER_LASTS: bool;
 
     // The bytes of its bus list.
     ghost list: { Self → List ℕ };
 
-    // A case by the two numbers after its name, with nothing else read. What the numbers mean is the program's own.
-    fn new(alloc: Global, first: u32, second: u32) -> Self
-        ensures { list result ≡ [] };
+    // A case starts by the two numbers after its name, with nothing else read. What they mean is the program's own.
+    fn start(&mut self, first: u64, second: u64)
+        ensures { list self.new ≡ [] };
 
-    // The letter that a word is. The numbers after a word that is none are left out. Which words are letters is the
-    // program's own, so there is no clause.
-    fn letter(word: &str) -> Option<Self::Letter>;
+    // The letter that a word with this first byte is. The numbers after one that is none are left out. Which bytes are
+    // letters is the program's own, so there is no clause.
+    fn letter(first: u8) -> Option<Self::Letter>;
 
     // The list keeps the bytes that it has. What a number adds is the program's own.
-    fn put(&mut self, letter: Self::Letter, number: u32) -> Result<(), AllocError>
-        ensures { OnOk result (take (length (list self.old)) (list self.new) ≡ list self.old) };
+    fn put(&mut self, letter: Self::Letter, number: u64)
+        ensures { take (length (list self.old)) (list self.new) ≡ list self.old };
 
     // Runs the case and prints it. The answer is whether it agrees, by what the program compares: there is no clause.
-    fn run(&self, rt: &impl Print, alloc: Global, name: &str) -> io::Result<bool>;
+    fn run(&self, rt: &impl Print, name: &[u8]) -> io::Result<bool>;
 }
 
-// The case of these words, run at each mark and counted. Without a whole start there is none.
-fn run_case<C: Case>(
+// What the next word of the text is: part of a case's body, or one of the three words of a start, with those before it.
+#[derive(Clone, Copy)]
+enum Next<'a> {
+    Body,
+    Name,
+    First(&'a [u8]),
+    Second(&'a [u8], u64),
+}
+
+// How far the text is read: the name of the case, the letter that holds, and what comes next.
+#[derive(Clone, Copy)]
+struct Place<'a, L> {
+    name: &'a [u8],
+    letter: Option<L>,
+    next: Next<'a>,
+}
+
+// A word of a case's body.
+fn body<'a, C: Case>(
     rt: &impl Print,
-    alloc: Global,
-    words: &[&str],
+    case: &mut C,
     tally: &mut Tally,
-) -> io::Result<()> {
-    let [name, first, second, body @ ..] = words else {
-        return Ok(());
-    };
-    let mut case = C::new(alloc, number(*first)?, number(*second)?);
-    let mut letter = None;
-    for word in body {
-        if *word == "!" {
-            tally.count(case.run(rt, alloc, *name)?);
-        } else if !word.starts_with(|c: char| c.is_ascii_digit()) {
-            letter = C::letter(*word);
-        } else if let Some(letter) = &letter {
-            case.put(*letter, number(*word)?)?;
+    place: Place<'a, C::Letter>,
+    word: &[u8],
+) -> io::Result<Place<'a, C::Letter>> {
+    match word.first().copied() {
+        Some(b'=') => Ok(Place {
+            next: Next::Name,
+            ..place
+        }),
+        Some(b'!') => {
+            tally.count(case.run(rt, place.name)?);
+            Ok(place)
         }
+        Some(b'0'..=b'9') => {
+            if let Some(letter) = place.letter {
+                case.put(letter, number(word));
+            }
+            Ok(place)
+        }
+        Some(first) => Ok(Place {
+            letter: C::letter(first),
+            ..place
+        }),
+        None => Ok(place),
     }
-    Ok(())
 }
 
-// Runs the cases of a text, and prints how many there were and how many of them differ. The words before the first `=`
-// are left out. What is printed stands in no clause.
-pub fn run_all<C: Case>(rt: &impl Print, alloc: Global, text: &str) -> io::Result<()> {
-    let words: Vec<&str> = text
-        .lines()
-        .flat_map(|line| uncommented(line).split_ascii_whitespace())
-        .collect(alloc)?;
+// One word of the text.
+fn step<'a, C: Case>(
+    rt: &impl Print,
+    case: &mut C,
+    tally: &mut Tally,
+    place: Place<'a, C::Letter>,
+    word: &'a [u8],
+) -> io::Result<Place<'a, C::Letter>> {
+    let next = match place.next {
+        Next::Body => return body(rt, case, tally, place, word),
+        Next::Name => Next::First(word),
+        Next::First(name) => Next::Second(name, number(word)),
+        Next::Second(name, first) => {
+            case.start(first, number(word));
+            return Ok(Place {
+                name,
+                letter: place.letter.filter(|_| C::LETTER_LASTS),
+                next: Next::Body,
+            });
+        }
+    };
+    Ok(Place { next, ..place })
+}
+
+// Runs the cases of a text, and prints how many there were and how many of them differ. What stands before the first `=`
+// is of the case that is handed over, which has no name. What is printed stands in no clause.
+pub fn run_all<C: Case>(rt: &impl Print, text: &[u8], case: &mut C) -> io::Result<()> {
+    let words = text.split(|byte| *byte == b'\n').flat_map(|line| {
+        line.split(|byte| *byte <= b' ')
+            .filter(|word| !word.is_empty())
+            .take_while(|word| !word.starts_with(b"#"))
+    });
     let mut tally = Tally::default();
-    for case in words.split(|word| *word == "=").skip(1) {
-        run_case::<C>(rt, alloc, case, &mut tally)?;
+    let mut place = Place {
+        name: &[],
+        letter: None,
+        next: Next::Body,
+    };
+    for word in words {
+        place = step(rt, case, &mut tally, place, word)?;
     }
     println!(rt; "{tally}")
 }
@@ -106,53 +175,54 @@ pub enum Letter {
 }
 
 impl Letter {
-    // No other word is a letter of the list.
-    pub fn of(word: &str) -> Option<Letter>
-        ensures byte { (result ≡ Some Letter.Byte) ↔ (word.now ≡ codes "b") }
-        ensures half { (result ≡ Some Letter.Half) ↔ (word.now ≡ codes "h") }
-        ensures word { (result ≡ Some Letter.Word) ↔ (word.now ≡ codes "w") }
-        ensures again { (result ≡ Some Letter.Again) ↔ (word.now ≡ codes "x") }
-        ensures zeros { (result ≡ Some Letter.Zeros) ↔ (word.now ≡ codes "z") }
+    // No other byte is a letter of the list.
+    pub fn of(byte: u8) -> Option<Letter>
+        ensures byte { (result ≡ Some Letter.Byte) ↔ (byte ≡ 98) }
+        ensures half { (result ≡ Some Letter.Half) ↔ (byte ≡ 104) }
+        ensures word { (result ≡ Some Letter.Word) ↔ (byte ≡ 119) }
+        ensures again { (result ≡ Some Letter.Again) ↔ (byte ≡ 120) }
+        ensures zeros { (result ≡ Some Letter.Zeros) ↔ (byte ≡ 122) }
     {
-        match word {
-            "b" => Some(Letter::Byte),
-            "h" => Some(Letter::Half),
-            "w" => Some(Letter::Word),
-            "x" => Some(Letter::Again),
-            "z" => Some(Letter::Zeros),
+        match byte {
+            b'b' => Some(Letter::Byte),
+            b'h' => Some(Letter::Half),
+            b'w' => Some(Letter::Word),
+            b'x' => Some(Letter::Again),
+            b'z' => Some(Letter::Zeros),
             _ => None,
         }
     }
 
-    // Adds to the list what the number is under this letter.
-    pub fn put(self, list: &mut Vec<u8>, number: u32) -> Result<(), AllocError>
-        ensures byte { self ≡ Letter.Byte → OnOk result (list.new.items ≡ list.old.items ++ number % 256 ∷ []) }
-        ensures half { self ≡ Letter.Half → OnOk result (list.new.items ≡ list.old.items ++ take 2 (to_le_bytes w32 number)) }
-        ensures word { self ≡ Letter.Word → OnOk result (list.new.items ≡ list.old.items ++ to_le_bytes w32 number) }
-        ensures kept { OnOk result (take (length list.old.items) list.new.items ≡ list.old.items) }
-        ensures zeros { self ≡ Letter.Zeros → OnOk result (list.new.items ≡ list.old.items ++ replicate number 0) }
+    // Adds to the list what the number is under this letter, as far as the list has room.
+    pub fn put(self, list: &mut Filled<'_, u8>, number: u64)
+        ensures byte { self ≡ Letter.Byte → items list.new ≡ take (capacity list.old) (items list.old ++ number % 256 ∷ []) }
+        ensures half { self ≡ Letter.Half → items list.new ≡ take (capacity list.old) (items list.old ++ take 2 (to_le_bytes w64 number)) }
+        ensures word { self ≡ Letter.Word → items list.new ≡ take (capacity list.old) (items list.old ++ take 4 (to_le_bytes w64 number)) }
+        ensures zeros { self ≡ Letter.Zeros → items list.new ≡ take (capacity list.old) (items list.old ++ replicate number 0) }
+        ensures kept { take (length (items list.old)) (items list.new) ≡ items list.old }
+        ensures room { capacity list.new ≡ capacity list.old }
     {
         let bytes = number.to_le_bytes();
         match self {
-            Letter::Byte => list.extend_from_slice(&bytes[..1]),
-            Letter::Half => list.extend_from_slice(&bytes[..2]),
-            Letter::Word => list.extend_from_slice(&bytes),
+            Letter::Byte => list.extend(&bytes[..1]),
+            Letter::Half => list.extend(&bytes[..2]),
+            Letter::Word => list.extend(&bytes[..4]),
             Letter::Again => repeat(list, number),
-            Letter::Zeros => list.resize(list.len() + number as usize, 0),
+            Letter::Zeros => list.fill(0, number),
         }
     }
 }
 
-// The last eight bytes `count` times more; nothing where there are fewer.
-fn repeat(list: &mut Vec<u8>, count: u32) -> Result<(), AllocError>
-    ensures { OnOk result (take (length list.old.items) list.new.items ≡ list.old.items) }
+// The last eight bytes `count` times more; nothing where there are fewer. No list has room for more times than bytes.
+fn repeat(list: &mut Filled<'_, u8>, count: u64)
+    ensures kept { take (length (items list.old)) (items list.new) ≡ items list.old }
+    ensures room { capacity list.new ≡ capacity list.old }
 {
-    if let Some(last) = list.last_chunk::<8>().copied() {
-        for _ in 0..count {
-            list.extend_from_slice(&last)?;
+    if let Some(last) = list.as_slice().last_chunk::<8>().copied() {
+        for _ in 0..count.min(list.capacity() as u64) {
+            list.extend(&last);
         }
     }
-    Ok(())
 }
 
 // How many cases were run, and how many of them differ.

@@ -10,60 +10,69 @@
 //   awk '{sub(/ *#.*/,"")}$1=="="{print $2 ": document " $3 ", refusal " $3;n++}END{print n " cases, 0 differ"}' stdin > stdout
 #![tactic(auto)]
 
-use cases::Letter;
-use std::alloc::{AllocError, Global};
+use cases::{Filled, Letter};
 use std::io;
 
 // A case as far as it has been read.
 #[derive(Drop)]
-struct Case {
+struct Case<'a> {
     // The cause from the document.
-    cause: u32,
+    cause: u64,
     // The received buffer's length.
     room: usize,
-    list: Vec<u8>,
+    list: Filled<'a, u8>,
 }
 
-impl Case {
+impl<'a> Case<'a> {
     // The number of the cause that refuses the list, 0 for one that is accepted.
     fn verdict(&self) -> u32 {
-        match acceptance::accept(&self.list, self.room) {
+        match acceptance::accept(self.list.as_slice(), self.room) {
             Ok(_) => 0,
             Err(refusal) => refusal.into(),
         }
     }
 }
 
-impl cases::Case for Case {
+impl<'a> cases::Case for Case<'a> {
     type Letter = Letter;
 
-    ghost list = { λ case. case.list.items };
+    const LETTER_LASTS: bool = true;
 
-    fn new(alloc: Global, cause: u32, room: u32) -> Case {
-        Case {
-            cause,
-            room: room as usize,
-            list: Vec::new(alloc),
-        }
+    ghost use Rattle.cases.specs.Items.{items};
+
+    ghost list = { λ case. items case.list };
+
+    fn start(&mut self, cause: u64, room: u64) {
+        self.cause = cause;
+        self.room = room as usize;
+        self.list.clear();
     }
 
-    fn letter(word: &str) -> Option<Letter> {
-        Letter::of(word)
+    fn letter(first: u8) -> Option<Letter> {
+        Letter::of(first)
     }
 
-    fn put(&mut self, letter: Letter, number: u32) -> Result<(), AllocError> {
-        letter.put(&mut self.list, number)
+    fn put(&mut self, letter: Letter, number: u64) {
+        letter.put(&mut self.list, number);
     }
 
-    fn run(&self, rt: &impl Print, _: Global, name: &str) -> io::Result<bool> {
+    fn run(&self, rt: &impl Print, name: &[u8]) -> io::Result<bool> {
         let cause = self.cause;
         let refusal = self.verdict();
-        println!(rt; "{name}: document {cause}, refusal {refusal}")?;
-        Ok(refusal == cause)
+        rt.write_all(name)?;
+        println!(rt; ": document {cause}, refusal {refusal}")?;
+        Ok(refusal as u64 == cause)
     }
 }
 
 fn main(rt: HostRuntime) -> io::Result<()> {
-    let text = io::read_to_string(rt.alloc(), rt.stdin())?;
-    cases::run_all::<Case>(&rt, rt.alloc(), text.as_str())
+    let mut text = [0u8; 65536];
+    let size = input::read_full(&mut rt.stdin(), &mut text)?;
+    let mut list = [0u8; 65536];
+    let mut case = Case {
+        cause: 0,
+        room: 0,
+        list: Filled::new(&mut list),
+    };
+    cases::run_all(&rt, &text[..size], &mut case)
 }

@@ -2,12 +2,12 @@
 -- Assumes nothing.
 use Prim.Native.Nat.{ℕ, zero, suc, ◌+◌, ◌-◌, ◌%◌, ◌^◌, ◌≤◌, ◌<◌}
 use native.Mathlib.Omega.{arith}
-use mathlib.Core.Bool.{true, false}
+use mathlib.Core.Bool.{Bool, true, false, cond}
 use mathlib.Core.Path.{◌≡◌, refl, ap, ◌∙◌}
 use mathlib.Core.List.{List, [], ◌∷◌, ◌++◌}
 use lib.ListN.{length, get_or, length-set, drop_of_length-le}
 use lib.Seq.{drop-drop, drop-cons}
-use borrow.Author.Tests.{ne_eqb, leb-false}
+use borrow.Author.Tests.{eq-eqb, ne_eqb, eqb-true, leb-false}
 use Rattle.units.specs.declared.Setup.{Setup}
 use Rattle.registers.specs.declared.Progress.{Progress}
 use Rattle.registers.specs.declared.ReadCode.{ReadCode}
@@ -15,7 +15,7 @@ use Rattle.registers.specs.declared.WriteCode.{WriteCode}
 use Rattle.registers.specs.declared.BusError.{BusError}
 use Rattle.registers.specs.declared.Cut.{Cut}
 use Rattle.registers.specs.declared.Entry.{Entry}
-use Rattle.registers.specs.Access.{is_read, is_data, cut, CYC, DR, store, entries_in, Access}
+use Rattle.registers.specs.Access.{is_read, is_data, cut, CYC, DR, store, entries_in, Ending, Access}
 use Rattle.registers.specs.Machine.{Step, Act, access, next, exec, exec_on, exec_full, perform, no_room}
 use Rattle.registers.specs.Contract.{read_code, write_code}
 use Rattle.registers.specs.State.{State, After, Took, at, going, word, then, taking, entry, recorded, received, replay, room, left, after, resume, read_one, read, write_one, write}
@@ -188,14 +188,47 @@ writes_code WriteCode.Trise = refl
 writes_code WriteCode.Sr1 = refl
 writes_code WriteCode.Dr = refl
 
-pub cut_cycles : (c : ReadCode) (w : ℕ) → c ≡ ReadCode.Cyc → w < 2 ^ 32 → w ≡ cut (read_code c) w
+pub cut_cycles : (c w : ℕ) → c ≡ CYC → w < 2 ^ 32 → w ≡ cut c w
 unfolding cut
-cut_cycles c w e h = rw e (omega arith)
+cut_cycles c w e h = rw (eq-eqb c CYC e) (omega arith)
 
-pub cut_register : (c : ReadCode) (w : ℕ) → (c ≡ ReadCode.Cyc → ⊥) → w % 65536 ≡ cut (read_code c) w
+pub cut_register : (c w : ℕ) → (c ≡ CYC → ⊥) → w % 65536 ≡ cut c w
 unfolding cut
-cut_register ReadCode.Sr1 w h = refl
-cut_register ReadCode.Sr2 w h = refl
-cut_register ReadCode.Cr1 w h = refl
-cut_register ReadCode.Dr w h = refl
-cut_register ReadCode.Cyc w h = absurd (h refl)
+cut_register c w e = rw (ne_eqb c CYC e)
+
+-- the bytes received are at most the readings used
+abbrev pub Fewer : State → Type 0
+Fewer (at rs lg rx b) = b.got ≤ b.used
+
+fewer_replayed : (e : Entry) (st : State) → Fewer st → Fewer (received e (recorded e st))
+unfolding recorded received
+fewer_replayed e (at rs lg rx b) h = go (is_data e.code) (is_read e.code) refl refl
+  where
+    go : (t u : Bool) → is_data e.code ≡ t → is_read e.code ≡ u → cond t (b.got + 1) b.got ≤ cond u (b.used + 1) b.used
+    go true true p q = omega arith
+    go true false p q = absurd (omega (arith, eqb-true e.code DR p, leb-false e.code CYC q))
+    go false true p q = omega arith
+    go false false p q = omega arith
+
+replay_fewer : (es : List Entry) (st : State) → Fewer st → Fewer (replay es st)
+unfolding replay
+replay_fewer [] st h = h
+replay_fewer (e ∷ es) st h = replay_fewer es (received e (recorded e st)) (fewer_replayed e st h)
+
+-- the state that steps leave, however they end
+abbrev pub state_after : After → State
+state_after (going st) = st
+state_after (After.failed e st) = st
+state_after (After.cut_short c st) = st
+
+pub after_fewer : (s : Setup) (q : List Step) (st : State) → Fewer st → Fewer (state_after (resume s q st))
+unfolding resume after
+after_fewer s q st h = go (exec s (room st) q (left st)).ending
+  where
+    go : (n : Ending) → Fewer (state_after (after n (replay (exec s (room st) q (left st)).log st)))
+    go Ending.well = replay_fewer _ st h
+    go (Ending.failed a) = replay_fewer _ st h
+    go (Ending.cut_short c) = replay_fewer _ st h
+
+pub resume_fewer : (s : Setup) (q : List Step) (st st' : State) → resume s q st ≡ going st' → Fewer st → Fewer st'
+resume_fewer s q st st' e h = rw e at (after_fewer s q st h)

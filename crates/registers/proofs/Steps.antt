@@ -1,26 +1,25 @@
 -- How a function's answer carries the run on: where it is a word or well, to what is left of the steps; where not, to the end.
 -- Assumes nothing.
-use Prim.Native.Nat.{ℕ, zero, suc, ◌+◌, ◌<◌}
+use Prim.Native.Nat.{ℕ, zero, suc, ◌+◌, ◌<◌, ◌≤◌}
 use lib.ListN.{length, drop, length-drop}
 use Rattle.registers.specs.declared.Progress.{Progress}
 use native.Mathlib.Omega.{arith}
 use mathlib.Core.Bool.{false}
 use mathlib.Core.Path.{◌≡◌, refl, sym, ap, subst, ◌∙◌}
-use mathlib.Core.List.{List, [], ◌∷◌, ◌++◌, append_assoc}
+use mathlib.Core.List.{List, [], ◌∷◌, ◌++◌, append_assoc, append-nil}
 use lib.Dec.{eqb}
+use Rattle.std.specs.Borrow.{MutBor}
 use Rattle.std.specs.Prelude.{Result, Ok, Err, IsErr, IsErrAnd, ⊤}
 use Rattle.units.specs.declared.Setup.{Setup}
 use Rattle.registers.specs.declared.BusError.{BusError}
 use Rattle.registers.specs.declared.Cut.{Cut}
-use Rattle.registers.specs.declared.ReadCode.{ReadCode}
-use Rattle.registers.specs.declared.WriteCode.{WriteCode}
 use Rattle.registers.specs.declared.Stop.{Stop}
 use Rattle.registers.specs.declared.access.Bus.{Bus}
 use Rattle.registers.specs.Access.{CYC, DR, cut, is_data, Access}
 use Rattle.registers.specs.Machine.{Step, Handler, handle, Act, access, next}
 use Rattle.registers.specs.State.{State, After, Took, Found, at, then, taking, finding, entry, received, recorded, left, room, resume, read_one, read}
-use Rattle.registers.specs.Contract.{read_code, write_code, state, Same, outcome, found, found_of, handled, Reads, Writes, Does, Reaches, Waits}
-use Rattle.registers.proofs.Laws.{read_law, write_law, fail_law, received_other, read-room, reads_code, writes_code}
+use Rattle.registers.specs.Contract.{state, Same, outcome, found, found_of, handled, ReadsAt, WritesAt, Does, Reaches, Waits, Starts}
+use Rattle.registers.proofs.Laws.{read_law, write_law, fail_law, done_law, received_other, read-room, Fewer, state_after, after_fewer}
 
 -- the same run still, after nothing and after one thing and then another
 pub same_bus : {b : Bus} → Same b b
@@ -80,19 +79,19 @@ as_found : (t : Took) → as_took (found_of t) ≡ t
 as_found (Took.word v st) = refl
 as_found (Took.cut_short c st) = refl
 
-pub read_word : {c : ReadCode} {b b' : Bus} {r : Result ℕ Stop} {v : ℕ} → Reads c b b' r → r ≡ Ok v → read (read_code c) (state b) ≡ Took.word v (state b')
-read_word {c} {b} {b'} {r} {v} x e = sym (as_found (read (read_code c) (state b))) ∙ ap as_took (sym x.is) ∙ rw e
+pub read_word : {c : ℕ} {b b' : Bus} {r : Result ℕ Stop} {v : ℕ} → ReadsAt c b b' r → r ≡ Ok v → read c (state b) ≡ Took.word v (state b')
+read_word {c} {b} {b'} {r} {v} x e = sym (as_found (read c (state b))) ∙ ap as_took (sym x.is) ∙ rw e
 
 -- it is no bus error
 unfailed : (t : Took) {e : BusError} {st : State} → Found.failed e st ≡ found_of t → ⊥
 unfailed (Took.word v st) h = let z : ◌≡◌ {A = ℕ} 0 1 = cc in omega arith
 unfailed (Took.cut_short c st) h = let z : ◌≡◌ {A = ℕ} 0 1 = cc in omega arith
 
-pub read_unfailed : {c : ReadCode} {b b' : Bus} {r : Result ℕ Stop} {e : BusError} → Reads c b b' r → r ≡ Err (Stop.Failed e) → ⊥
-read_unfailed {c} {b} {b'} {r} {e} x k = unfailed (read (read_code c) (state b)) (ap (found (state b')) (sym k) ∙ x.is)
+pub read_unfailed : {c : ℕ} {b b' : Bus} {r : Result ℕ Stop} {e : BusError} → ReadsAt c b b' r → r ≡ Err (Stop.Failed e) → ⊥
+read_unfailed {c} {b} {b'} {r} {e} x k = unfailed (read c (state b)) (ap (found (state b')) (sym k) ∙ x.is)
 
-pub read_cut : {c : ReadCode} {b b' : Bus} {r : Result ℕ Stop} {k : Cut} → Reads c b b' r → r ≡ Err (Stop.CutShort k) → read (read_code c) (state b) ≡ Took.cut_short k (state b')
-read_cut {c} {b} {b'} {r} {k} x e = sym (as_found (read (read_code c) (state b))) ∙ ap as_took (sym x.is) ∙ rw e
+pub read_cut : {c : ℕ} {b b' : Bus} {r : Result ℕ Stop} {k : Cut} → ReadsAt c b b' r → r ≡ Err (Stop.CutShort k) → read c (state b) ≡ Took.cut_short k (state b')
+read_cut {c} {b} {b'} {r} {k} x e = sym (as_found (read c (state b))) ∙ ap as_took (sym x.is) ∙ rw e
 
 taking_found : (t : Took) (k : ℕ → State → After) → taking t k ≡ finding (found_of t) k
 taking_found (Took.word v st) k = refl
@@ -100,19 +99,19 @@ taking_found (Took.cut_short c st) k = refl
 
 -- a read that is no DR read, for the step i
 module _ {q : List Step} {b : Bus} {i : Step} {q₁ : List Step} {b₁ : Bus} (g : Reaches q b (i ∷ q₁) b₁)
-    {c : ReadCode} {b₂ : Bus} {r : Result ℕ Stop} (x : Reads c b₁ b₂ r) (a : access i ≡ Act.make (Access.read (read_code c))) where
+    {c : ℕ} {b₂ : Bus} {r : Result ℕ Stop} (x : ReadsAt c b₁ b₂ r) (a : access i ≡ Act.make (Access.read c)) where
   -- what is still to come after it
   abbrev onward_read : (p : List Step) → ℕ → State → After
-  onward_read p v st = resume b.setup (next b.setup i v ++ (q₁ ++ p)) (received (entry (read_code c) v) st)
+  onward_read p v st = resume b.setup (next b.setup i v ++ (q₁ ++ p)) (received (entry c v) st)
 
   onward : (p : List Step) → resume b.setup (q ++ p) (state b) ≡ finding (found (state b₂) r) (onward_read p)
   onward p =
-      g.is p ∙ read_law b.setup i (read_code c) (q₁ ++ p) (state b₁) a (reads_code c)
-      ∙ taking_found (read (read_code c) (state b₁)) (onward_read p) ∙ ap (λ (f : Found). finding f (onward_read p)) (sym x.is)
+      g.is p ∙ read_law b.setup i c (q₁ ++ p) (state b₁) a x.code
+      ∙ taking_found (read c (state b₁)) (onward_read p) ∙ ap (λ (f : Found). finding f (onward_read p)) (sym x.is)
 
-  pub read_step : is_data (read_code c) ≡ false → {v : ℕ} → r ≡ Ok v → {m : List Step} → next b.setup i v ≡ m → Reaches q b (m ++ q₁) b₂
+  pub read_step : is_data c ≡ false → {v : ℕ} → r ≡ Ok v → {m : List Step} → next b.setup i v ≡ m → Reaches q b (m ++ q₁) b₂
   read_step u {v} e {m} n =
-      record { same = same_then g.same x.same; is = λ p. onward p ∙ rw (e, received_other (entry (read_code c) v) (state b₂) u, n, append_assoc m q₁ p) }
+      record { same = same_then g.same x.same; is = λ p. onward p ∙ rw (e, received_other (entry c v) (state b₂) u, n, append_assoc m q₁ p) }
 
   pub read_stops : {stop : Stop} {r' : Result ⊤ Stop} → r ≡ Err stop → HandsOn stop r' → Does q b b₂ r'
   read_stops {stop} {r'} e h =
@@ -123,8 +122,8 @@ module _ {q : List Step} {b : Bus} {i : Step} {q₁ : List Step} {b₁ : Bus} (g
       go (Stop.CutShort c) k k' = refl
 
 -- a write is its step
-pub write_does : {c : WriteCode} {v : ℕ} {b b' : Bus} {r : Result ⊤ Stop} → Writes c v b b' r → Does (Step.put (write_code c) v ∷ []) b b' r
-write_does {c} {v} {b} x = record { same = x.same; is = λ p. write_law b.setup (write_code c) v p (state b) (writes_code c) ∙ rw (← x.is) }
+pub write_does : {c v : ℕ} {b b' : Bus} {r : Result ⊤ Stop} → WritesAt c v b b' r → Does (Step.put c v ∷ []) b b' r
+write_does {c} {v} {b} x = record { same = x.same; is = λ p. write_law b.setup c v p (state b) x.code ∙ rw (← x.is) }
 
 -- a call of a function that does the steps q₀
 module _ {q₀ : List Step} {b₁ b₂ : Bus} {r : Result ⊤ Stop} (x : Does q₀ b₁ b₂ r) (q₁ : List Step) {q : List Step} {b : Bus} (g : Reaches q b (q₀ ++ q₁) b₁) where
@@ -158,7 +157,7 @@ pub call_last : {q : List Step} {b : Bus} {q₁ : List Step} {b₁ b₂ : Bus} {
 call_last g x = record { same = same_then g.same x.same; is = λ p. g.is p ∙ rw (← g.same.setup) (x.is p) }
 
 -- a read of DR: its low byte is received
-pub data_step : {b b₁ : Bus} {v : ℕ} → Reads ReadCode.Dr b b₁ (Ok v) → {b₂ : Bus} → Same b b₂ → received (entry DR v) (state b₁) ≡ state b₂ → Does (Step.get DR ∷ []) b b₂ (Ok tt)
+pub data_step : {b b₁ : Bus} {v : ℕ} → ReadsAt DR b b₁ (Ok v) → {b₂ : Bus} → Same b b₂ → received (entry DR v) (state b₁) ≡ state b₂ → Does (Step.get DR ∷ []) b b₂ (Ok tt)
 unfolding next
 data_step {b} {b₁} {v} x y f =
     record {
@@ -181,23 +180,23 @@ abbrev progress_of : State → Progress
 progress_of (at rs lg rx b) = b
 
 -- a word read leaves less room
-pub read_less : {c : ReadCode} {b b' : Bus} {r : Result ℕ Stop} {v : ℕ} → Reads c b b' r → r ≡ Ok v → room (state b') < room (state b)
-read_less {c} {b} {b'} {r} {v} x e = go (read (read_code c) (state b)) refl
+pub read_less : {c : ℕ} {b b' : Bus} {r : Result ℕ Stop} {v : ℕ} → ReadsAt c b b' r → r ≡ Ok v → room (state b') < room (state b)
+read_less {c} {b} {b'} {r} {v} x e = go (read c (state b)) refl
   where
-    go : (t : Took) → read (read_code c) (state b) ≡ t → room (state b') < room (state b)
+    go : (t : Took) → read c (state b) ≡ t → room (state b') < room (state b)
     go (Took.word w st) f =
         let h : Found.word v (state b') ≡ Found.word w st = ap (found (state b')) (sym e) ∙ x.is ∙ ap found_of f in
-        rw (ap state_of h) (read-room (read_code c) (state b) (sym f))
+        rw (ap state_of h) (read-room c (state b) (sym f))
     go (Took.cut_short k st) f =
         let h : Found.word v (state b') ≡ Found.cut_short k st = ap (found (state b')) (sym e) ∙ x.is ∙ ap found_of f in
         let z : ◌≡◌ {A = ℕ} 0 1 = cc in absurd (omega arith)
 
 -- a register word is 16 bits wide
-pub read_small : {c : ReadCode} {b b' : Bus} {r : Result ℕ Stop} {v : ℕ} → Reads c b b' r → eqb (read_code c) CYC ≡ false → r ≡ Ok v → v < 65536
+pub read_small : {c : ℕ} {b b' : Bus} {r : Result ℕ Stop} {v : ℕ} → ReadsAt c b b' r → eqb c CYC ≡ false → r ≡ Ok v → v < 65536
 unfolding read read_one cut
 read_small {c} {b} {b'} {r} {v} x t e = go (left (state b)) (room (state b)) (ap (found (state b')) (sym e) ∙ x.is)
   where
-    go : (ws : List ℕ) (n : ℕ) → Found.word v (state b') ≡ found_of (read_one (read_code c) (state b) ws n) → v < 65536
+    go : (ws : List ℕ) (n : ℕ) → Found.word v (state b') ≡ found_of (read_one c (state b) ws n) → v < 65536
     go ws zero k = let z : ◌≡◌ {A = ℕ} 0 1 = cc in absurd (omega arith)
     go [] (suc n) k = let z : ◌≡◌ {A = ℕ} 0 1 = cc in absurd (omega arith)
     go (w ∷ ws) (suc n) k = omega (arith, (rw t at (ap value_of k)))
@@ -208,20 +207,35 @@ pub record Counted (b b' : Bus) : Type 0 where
   pub used : b'.progress.used ≡ b.progress.used + 1
   pub got : b'.progress.got ≡ b.progress.got
 
-pub read-counts : {c : ReadCode} {b b' : Bus} {r : Result ℕ Stop} {v : ℕ} → Reads c b b' r → r ≡ Ok v → Counted b b'
+pub read-counts : {c : ℕ} {b b' : Bus} {r : Result ℕ Stop} {v : ℕ} → ReadsAt c b b' r → r ≡ Ok v → Counted b b'
 unfolding read read_one recorded left
 read-counts {c} {b} {b'} {r} {v} x e = go (left (state b)) (room (state b)) refl (ap (found (state b')) (sym e) ∙ x.is)
   where
-    go : (ws : List ℕ) (n : ℕ) → drop b.progress.used b.readings.now ≡ ws → Found.word v (state b') ≡ found_of (read_one (read_code c) (state b) ws n) → Counted b b'
+    go : (ws : List ℕ) (n : ℕ) → drop b.progress.used b.readings.now ≡ ws → Found.word v (state b') ≡ found_of (read_one c (state b) ws n) → Counted b b'
     go ws zero l k = let z : ◌≡◌ {A = ℕ} 0 1 = cc in absurd (omega arith)
     go [] (suc n) l k = let z : ◌≡◌ {A = ℕ} 0 1 = cc in absurd (omega arith)
     go (w ∷ ws) (suc n) l k =
         let e = ap (λ (z : Found). progress_of (state_of z)) k in
         record {
           there = omega (arith, simp length-drop at (ap length l));
-          used = rw (reads_code c) at (ap (λ (z : Progress). z.used) e);
+          used = rw x.code at (ap (λ (z : Progress). z.used) e);
           got = ap (λ (z : Progress). z.got) e;
         }
+
+-- the bytes received are at most the readings used where a run begins so, and stay it by a read and by steps that are done
+pub starts_fewer : {s : Setup} {readings : List ℕ} {log rx : MutBor (List ℕ)} {progress : Progress} {b : Bus} → Starts s readings log rx progress b → progress.got ≤ progress.used → b.progress.got ≤ b.progress.used
+starts_fewer x h = subst Fewer (sym x.start) h
+
+pub read_fewer : {c : ℕ} {b b' : Bus} {v : ℕ} → ReadsAt c b b' (Ok v) → b.progress.got ≤ b.progress.used → b'.progress.got ≤ b'.progress.used
+read_fewer x h = let n = read-counts x refl in omega arith
+
+pub keeps_fewer : {q : List Step} {b b' : Bus} {r : Result ⊤ Stop} → Does q b b' r → b.progress.got ≤ b.progress.used → b'.progress.got ≤ b'.progress.used
+keeps_fewer {q} {b} {b'} {r} x h = subst Fewer (ap state_after (rw append-nil at (x.is [])) ∙ left_by r) (after_fewer b.setup q (state b) h)
+  where
+    left_by : (r : Result ⊤ Stop) → state_after (then (outcome (state b') r) (resume b.setup [])) ≡ state b'
+    left_by (Ok t) = rw done_law
+    left_by (Err (Stop.Failed e)) = refl
+    left_by (Err (Stop.CutShort c)) = refl
 
 -- a timed wait
 

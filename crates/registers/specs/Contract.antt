@@ -1,5 +1,5 @@
 -- The forms of the contracts: what a function's answer means, by the bus that it leaves and what comes of the rest of the run from there.
-use Rattle.std.specs.Prelude.{ℕ, ◌+◌, ◌-◌, ◌≤◌, ◌≡◌, false, ◌&&◌, leb, List, [], ◌∷◌, ◌++◌, length, get_or, Result, Ok, Err, MatchResult, ⊤}
+use Rattle.std.specs.Prelude.{ℕ, ◌+◌, ◌-◌, ◌≤◌, ◌≡◌, true, false, ◌&&◌, leb, List, [], ◌∷◌, ◌++◌, length, get_or, Result, Ok, Err, MatchResult, ⊤}
 use Rattle.std.specs.Borrow.{Bor, MutBor}
 use denote.Triple.Both.{Both}
 use Rattle.units.specs.declared.Setup.{Setup}
@@ -11,7 +11,7 @@ use Rattle.registers.specs.declared.BusError.{BusError}
 use Rattle.registers.specs.declared.Stop.{Stop}
 use Rattle.registers.specs.declared.Progress.{Progress}
 use Rattle.registers.specs.declared.access.Bus.{Bus}
-use Rattle.registers.specs.Access.{SR1, SR2, CR1, DR, CYC, wCR1, wCR2, wCCR, wTRISE, wSR1, wDR, cut, entries_in, well, failed, cut_number, number}
+use Rattle.registers.specs.Access.{SR1, SR2, CR1, DR, CYC, wCR1, wCR2, wCCR, wTRISE, wSR1, wDR, is_read, cut, entries_in, well, failed, cut_number, number}
 use Rattle.registers.specs.Machine.{Step, Handler, handle}
 use Rattle.registers.specs.State.{State, at, After, Took, Found, then, entry, received, resume, read, write, check}
 
@@ -78,15 +78,23 @@ abbrev pub outcome_number : Result ⊤ Stop → ℕ
 outcome_number (Ok t) = number well
 outcome_number (Err stop) = stop_number stop
 
--- one read
-pub record Reads (c : ReadCode) (b b' : Bus) (r : Result ℕ Stop) : Type 0 where
+-- one read, by a code of a read; and of a register that is named
+pub record ReadsAt (c : ℕ) (b b' : Bus) (r : Result ℕ Stop) : Type 0 where
+  pub code : is_read c ≡ true
   pub same : Same b b'
-  pub is : found (state b') r ≡ found_of (read (read_code c) (state b))
+  pub is : found (state b') r ≡ found_of (read c (state b))
 
--- one write of v
-pub record Writes (c : WriteCode) (v : ℕ) (b b' : Bus) (r : Result ⊤ Stop) : Type 0 where
+abbrev pub Reads : ReadCode → Bus → Bus → Result ℕ Stop → Type 0
+Reads c b b' r = ReadsAt (read_code c) b b' r
+
+-- one write of v, by a code that is not of a read; and to a register that is named
+pub record WritesAt (c v : ℕ) (b b' : Bus) (r : Result ⊤ Stop) : Type 0 where
+  pub code : is_read c ≡ false
   pub same : Same b b'
-  pub is : outcome (state b') r ≡ write (write_code c) v (state b)
+  pub is : outcome (state b') r ≡ write c v (state b)
+
+abbrev pub Writes : WriteCode → ℕ → Bus → Bus → Result ⊤ Stop → Type 0
+Writes c v b b' r = WritesAt (write_code c) v b b' r
 
 -- one check
 pub record Checks (n : Source) (b b' : Bus) (r : Result ℕ Stop) : Type 0 where
@@ -117,22 +125,31 @@ pub record Waits (h : Handler) (q : List Step) (b b' : Bus) (r : Result ⊤ Stop
 abbrev pub Fits : Bus → ℕ → Type 0
 Fits b n = (n ≤ length b.readings.now - b.progress.used) × (n ≤ entries_in (length b.log.now) - b.progress.made)
 
--- the word of a read of this register after so many other reads
+-- the word of a read by this code after so many other reads; and of a register that is named
+abbrev pub word_at : ℕ → ℕ → Bus → ℕ
+word_at c k b = cut c (get_or b.readings.now (b.progress.used + k) 0)
+
 abbrev pub word_after : ReadCode → ℕ → Bus → ℕ
-word_after c k b = cut (read_code c) (get_or b.readings.now (b.progress.used + k) 0)
+word_after c k b = word_at (read_code c) k b
 
 -- a read that fits: each later word is one read nearer, and one access fewer fits
-pub record ReadsNext (c : ReadCode) (b b' : Bus) (v : ℕ) : Type 0 where
-  pub reads : Reads c b b' (Ok v)
-  pub word : v ≡ word_after c 0 b
+pub record ReadsNextAt (c : ℕ) (b b' : Bus) (v : ℕ) : Type 0 where
+  pub reads : ReadsAt c b b' (Ok v)
+  pub word : v ≡ word_at c 0 b
   pub later : (c' : ReadCode) (k : ℕ) → word_after c' k b' ≡ word_after c' (k + 1) b
   pub fits : (n : ℕ) → Fits b n → Fits b' (n - 1)
 
+abbrev pub ReadsNext : ReadCode → Bus → Bus → ℕ → Type 0
+ReadsNext c b b' v = ReadsNextAt (read_code c) b b' v
+
 -- a write that fits: no later word comes nearer, and one access fewer fits
-pub record WritesNext (c : WriteCode) (v : ℕ) (b b' : Bus) : Type 0 where
-  pub writes : Writes c v b b' (Ok tt)
+pub record WritesNextAt (c v : ℕ) (b b' : Bus) : Type 0 where
+  pub writes : WritesAt c v b b' (Ok tt)
   pub later : (c' : ReadCode) (k : ℕ) → word_after c' k b' ≡ word_after c' k b
   pub fits : (n : ℕ) → Fits b n → Fits b' (n - 1)
+
+abbrev pub WritesNext : WriteCode → ℕ → Bus → Bus → Type 0
+WritesNext c v b b' = WritesNextAt (write_code c) v b b'
 
 -- the low byte of a word that was read from DR is received
 pub record TakesByte (v : ℕ) (b b' : Bus) : Type 0 where

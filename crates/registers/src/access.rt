@@ -1,6 +1,6 @@
 // A run's registers, one access at a time: a read takes the next reading, and every access is recorded.
-ghost use Rattle.std.specs.Prelude.{◌≡◌, ◌+◌, ◌*◌, ◌<◌, ◌≤◌, false, [], ◌∷◌, length, set, leb};
-ghost use Rattle.registers.specs.Access.{DR, is_data, entries_in, store, flag_of, clear_word};
+ghost use Rattle.std.specs.Prelude.{◌≡◌, ◌+◌, ◌*◌, ◌<◌, ◌≤◌, true, false, [], ◌∷◌, length, set, leb};
+ghost use Rattle.registers.specs.Access.{DR, is_read, is_data, cut, entries_in, store, flag_of, clear_word};
 ghost use Rattle.registers.specs.Machine.{Step};
 
 use crate::{
@@ -18,12 +18,10 @@ pub struct Bus<'a> {
     pub log: &'a mut [u32],
     pub rx: &'a mut [u8],
     pub progress: Progress,
-    // Each byte received used a reading.
-    pub ghost fewer: { progress.got ≤ progress.used },
 }
 
 impl<'a> Bus<'a> {
-    ghost use Rattle.registers.specs.Contract.{read_code, Reads, Writes, Does, Starts, nothing_yet, Fits, word_after, ReadsNext, WritesNext, TakesByte, ReceivesNext};
+    ghost use Rattle.registers.specs.Contract.{read_code, ReadsAt, Reads, WritesAt, Writes, Does, Starts, nothing_yet, Fits, word_after, ReadsNextAt, ReadsNext, WritesNextAt, WritesNext, TakesByte, ReceivesNext};
 
     // Nothing is read, made or received as yet.
     pub fn new(setup: Setup, readings: &'a [u32], log: &'a mut [u32], rx: &'a mut [u8]) -> Bus<'a>
@@ -45,7 +43,6 @@ impl<'a> Bus<'a> {
         rx: &'a mut [u8],
         progress: Progress,
     ) -> Bus<'a>
-        requires { progress.got ≤ progress.used }
         ensures { Starts setup readings.now log.entry rx.entry progress result }
     {
         Bus {
@@ -64,55 +61,85 @@ impl<'a> Bus<'a> {
         self.log.len() / ENTRY_WORDS <= self.progress.made
     }
 
-    // One read that fits: the next reading, cut to its register and recorded.
+    // One read that fits, by its code: the next reading, cut to its register and recorded.
     #[inline(always)]
-    pub fn record_read(&mut self, from: ReadCode) -> u32
-        requires { Fits self.old 1 }
-        ensures { ReadsNext from self.old self.new result }
+    fn record_read_at(&mut self, from: u32) -> u32
+        requires { (is_read from ≡ true) × Fits self.old 1 }
+        ensures { ReadsNextAt from self.old self.new result }
     {
         let used = self.progress.used;
-        let reading = self.readings[used];
-        let value = match from {
-            ReadCode::Cyc => reading,
-            _ => reading % 65536,
-        };
-        let entry = Entry {
-            code: from.into(),
-            value,
-        };
+        let value = cut(from, self.readings[used]);
+        let entry = Entry { code: from, value };
         put_entry(self.log, self.progress.made, entry);
         self.progress.used = used + 1;
         self.progress.made += 1;
         value
     }
 
-    // One read. Record space is tested before readings.
+    // One read that fits.
     #[inline(always)]
-    pub fn read(&mut self, from: ReadCode) -> Result<u32, Stop>
-        ensures { Reads from self.old self.new result }
+    pub fn record_read(&mut self, from: ReadCode) -> u32
+        requires { Fits self.old 1 }
+        ensures { ReadsNext from self.old self.new result }
+    {
+        self.record_read_at(from.into())
+    }
+
+    // One read, by its code, where 0 names no register. Record space is tested before readings.
+    #[inline(always)]
+    pub fn read_at(&mut self, from: u32) -> Result<u32, Stop>
+        requires { is_read from ≡ true }
+        ensures { ReadsAt from self.old self.new result }
     {
         if self.is_full() {
-            return Err(Stop::CutShort(Cut::NoRecord(from.into())));
+            return Err(Stop::CutShort(Cut::NoRecord(from)));
         }
         if self.readings.len() <= self.progress.used {
             return Err(Stop::CutShort(Cut::NoReadings));
         }
-        Ok(self.record_read(from))
+        Ok(self.record_read_at(from))
     }
 
-    // One write that fits, recorded.
+    // One read.
+    #[inline(always)]
+    pub fn read(&mut self, from: ReadCode) -> Result<u32, Stop>
+        ensures { Reads from self.old self.new result }
+    {
+        self.read_at(from.into())
+    }
+
+    // One write that fits, by its code, recorded.
+    #[inline(always)]
+    fn record_write_at(&mut self, to: u32, value: u32)
+        requires { (is_read to ≡ false) × (self.old.progress.made < entries_in (length self.old.log.now)) }
+        ensures { WritesNextAt to value self.old self.new }
+    {
+        let entry = Entry { code: to, value };
+        let made = self.progress.made;
+        put_entry(self.log, made, entry);
+        self.progress.made = made + 1;
+    }
+
+    // One write that fits.
     #[inline(always)]
     pub fn record_write(&mut self, to: WriteCode, value: u32)
         requires { self.old.progress.made < entries_in (length self.old.log.now) }
         ensures { WritesNext to value self.old self.new }
     {
-        let entry = Entry {
-            code: to.into(),
-            value,
-        };
-        let made = self.progress.made;
-        put_entry(self.log, made, entry);
-        self.progress.made = made + 1;
+        self.record_write_at(to.into(), value);
+    }
+
+    // One write, by its code, which may name no register.
+    #[inline(always)]
+    pub fn write_at(&mut self, to: u32, value: u32) -> Result<(), Stop>
+        requires { is_read to ≡ false }
+        ensures { WritesAt to value self.old self.new result }
+    {
+        if self.is_full() {
+            return Err(Stop::CutShort(Cut::NoRecord(to)));
+        }
+        self.record_write_at(to, value);
+        Ok(())
     }
 
     // One write.
@@ -120,10 +147,16 @@ impl<'a> Bus<'a> {
     pub fn write(&mut self, to: WriteCode, value: u32) -> Result<(), Stop>
         ensures { Writes to value self.old self.new result }
     {
-        if self.is_full() {
-            return Err(Stop::CutShort(Cut::NoRecord(to.into())));
-        }
-        self.record_write(to, value);
+        self.write_at(to.into(), value)
+    }
+
+    // A read by any code but that of DR, whose word plays no part.
+    #[inline(always)]
+    pub fn get_at(&mut self, code: u32) -> Result<(), Stop>
+        requires { (is_read code ≡ true) × (is_data code ≡ false) }
+        ensures { Does (Step.get code ∷ []) self.old self.new result }
+    {
+        self.read_at(code)?;
         Ok(())
     }
 
@@ -133,8 +166,7 @@ impl<'a> Bus<'a> {
         requires { is_data (read_code code) ≡ false }
         ensures { Does (Step.get (read_code code) ∷ []) self.old self.new result }
     {
-        self.read(code)?;
-        Ok(())
+        self.get_at(code.into())
     }
 
     // The low byte of a word that was read from DR is received.
@@ -151,6 +183,7 @@ impl<'a> Bus<'a> {
     // A read of DR.
     #[inline(always)]
     pub fn read_data(&mut self) -> Result<(), Stop>
+        requires { self.old.progress.got ≤ self.old.progress.used }
         ensures { Does (Step.get DR ∷ []) self.old self.new result }
     {
         let word = self.read(ReadCode::Dr)?;
@@ -161,7 +194,7 @@ impl<'a> Bus<'a> {
     // A read of DR that fits.
     #[inline(always)]
     pub fn record_data(&mut self)
-        requires { Fits self.old 1 }
+        requires { Fits self.old 1 × (self.old.progress.got ≤ self.old.progress.used) }
         ensures { ReceivesNext self.old self.new }
     {
         let word = self.record_read(ReadCode::Dr);
@@ -203,6 +236,18 @@ impl<'a> Bus<'a> {
     {
         self.readings[self.progress.used + reads] % 65536
     }
+}
+
+// A reading, cut to the register of this code.
+#[tactic(auto, unfolding(crate::specs::Access::cut))]
+#[inline(always)]
+fn cut(code: u32, reading: u32) -> u32
+    ensures { result ≡ cut code reading }
+{
+    if code == ReadCode::Cyc as u32 {
+        return reading;
+    }
+    reading % 65536
 }
 
 // Entry number k of the record.

@@ -12,11 +12,10 @@
 
 ghost use Rattle.std.specs.Prelude.{◌≤◌};
 
-use buffers::{Expected, Run, counts_of, to_words};
+use buffers::{Expected, Run, counts_of, first, to_words};
 use cases::Tally;
 use engine::Counts;
 use registers::ENTRY_WORDS;
-use std::alloc::{AllocError, Global};
 use std::fs::File;
 use std::io;
 use std::io::Read;
@@ -81,10 +80,15 @@ impl Head {
         ENTRY_WORDS * self.made as usize
     }
 
-    fn is_too_long(&self) -> bool {
+    // How many bytes the case has after its first nine words.
+    fn body(&self) -> usize {
         let words = self.readings as usize + self.record();
-        let body = padded(self.list) + 4 * words + padded(self.got);
-        body > BODY || self.room as usize > ROOM || self.words as usize > WORDS
+        padded(self.list) + 4 * words + padded(self.got)
+    }
+
+    // Whether the run's buffers are long enough for the case.
+    fn has_room(&self) -> bool {
+        self.room as usize <= ROOM && self.words as usize <= WORDS
     }
 
     fn counts(&self) -> Counts {
@@ -92,28 +96,32 @@ impl Head {
     }
 }
 
-// A stored case.
-#[derive(Drop)]
-struct Case {
-    head: Head,
-    list: Vec<u8>,
-    readings: Vec<u32>,
-    record: Vec<u32>,
-    received: Vec<u8>,
+// The first so many bytes, and those after them.
+fn cut(bytes: &[u8], count: usize) -> (&[u8], &[u8]) {
+    bytes.split_at(count.min(bytes.len()))
 }
 
-impl Case {
-    fn run(&self, alloc: Global) -> Result<Run, AllocError> {
-        let room = self.head.room as usize;
-        let words = self.head.words as usize;
-        Run::on(alloc, &self.list, &self.readings, room, words)
-    }
+// A stored case: its list, the bytes of its readings and of its record, and the received bytes.
+#[derive(Clone, Copy)]
+struct Case<'a> {
+    head: Head,
+    list: &'a [u8],
+    readings: &'a [u8],
+    record: &'a [u8],
+    received: &'a [u8],
+}
 
-    fn expected(&self) -> Expected<'_> {
-        Expected {
-            record: &self.record,
-            received: &self.received,
-            counts: self.head.counts(),
+impl<'a> Case<'a> {
+    fn of(head: Head, body: &'a [u8]) -> Case<'a> {
+        let (list, rest) = cut(body, padded(head.list));
+        let (readings, rest) = cut(rest, 4 * head.readings as usize);
+        let (record, received) = cut(rest, 4 * head.record());
+        Case {
+            head,
+            list: first(list, head.list as usize),
+            readings,
+            record,
+            received: first(received, head.got as usize),
         }
     }
 }
@@ -132,38 +140,8 @@ impl From<io::Error> for Unread {
     }
 }
 
-impl From<AllocError> for Unread {
-    fn from(error: AllocError) -> Unread {
-        Unread::Failed(io::Error::from(error))
-    }
-}
-
-// So many bytes of the file.
-fn read_bytes(alloc: Global, file: &mut impl Read, count: usize) -> Result<Vec<u8>, Unread> {
-    let mut bytes = vec![in alloc; 0; count]?;
-    if input::read_full(file, &mut bytes)? < count {
-        return Err(Unread::CutShort);
-    }
-    Ok(bytes)
-}
-
-// So many bytes, which the file fills up to a whole word.
-fn read_padded(alloc: Global, file: &mut impl Read, count: u32) -> Result<Vec<u8>, Unread> {
-    let mut bytes = read_bytes(alloc, file, padded(count))?;
-    bytes.truncate(count as usize);
-    Ok(bytes)
-}
-
-// So many words of the file.
-fn read_words(alloc: Global, file: &mut impl Read, count: usize) -> Result<Vec<u32>, Unread> {
-    let bytes = read_bytes(alloc, file, count.saturating_mul(4))?;
-    let mut words = vec![in alloc; 0; count]?;
-    to_words(&bytes, &mut words);
-    Ok(words)
-}
-
-// The file's next case, where it has one.
-fn read_case(alloc: Global, file: &mut impl Read) -> Result<Option<Case>, Unread> {
+// The file's next case, where it has one. What follows its first nine words goes to the body.
+fn read_case<'a>(file: &mut impl Read, body: &'a mut [u8]) -> Result<Option<Case<'a>>, Unread> {
     let mut bytes = [0; 36];
     let count = input::read_full(file, &mut bytes)?;
     if count == 0 {
@@ -173,16 +151,14 @@ fn read_case(alloc: Global, file: &mut impl Read) -> Result<Option<Case>, Unread
         return Err(Unread::CutShort);
     }
     let head = Head::of(&bytes);
-    if head.is_too_long() {
+    let size = head.body();
+    if body.len() < size || !head.has_room() {
         return Err(Unread::TooLong);
     }
-    Ok(Some(Case {
-        head,
-        list: read_padded(alloc, file, head.list)?,
-        readings: read_words(alloc, file, head.readings as usize)?,
-        record: read_words(alloc, file, head.record())?,
-        received: read_padded(alloc, file, head.got)?,
-    }))
+    if input::read_full(file, &mut body[..size])? < size {
+        return Err(Unread::CutShort);
+    }
+    Ok(Some(Case::of(head, &body[..size])))
 }
 
 // How many runs had each answer, by the number of the answer, as C hosts get it, and how many cases differ.
@@ -194,15 +170,21 @@ struct Replay {
 
 impl Replay {
     // Runs a case and counts it. The first that differs is named, with its number from 0.
-    fn run(
-        &mut self,
-        rt: &impl Print,
-        alloc: Global,
-        number: usize,
-        case: &Case,
-    ) -> io::Result<()> {
-        let run = case.run(alloc)?;
-        let compared = run.compare(case.expected());
+    fn run(&mut self, rt: &impl Print, number: usize, case: Case<'_>) -> io::Result<()> {
+        let mut readings = [0; BODY / 4];
+        let readings = to_words(case.readings, &mut readings);
+        let mut record = [0; BODY / 4];
+        let expected = Expected {
+            record: to_words(case.record, &mut record),
+            received: case.received,
+            counts: case.head.counts(),
+        };
+        let mut rx = [0; ROOM];
+        let mut log = [0; WORDS];
+        let room = case.head.room as usize;
+        let words = case.head.words as usize;
+        let run = Run::on(case.list, readings, &mut rx, room, &mut log, words);
+        let compared = run.compare(expected);
         if let Err(difference) = compared {
             if self.tally.all_agree() {
                 println!(rt; "case {number} differs: {difference}")?;
@@ -232,14 +214,15 @@ impl Replay {
 }
 
 // All cases, up to one that cannot be read, which is named.
-fn replay_all(rt: &impl Print, alloc: Global, file: &mut impl Read) -> io::Result<Replay> {
+fn replay_all(rt: &impl Print, file: &mut impl Read) -> io::Result<Replay> {
     let mut replay = Replay {
         answers: [0; 28],
         tally: Tally::default(),
     };
+    let mut body = [0; BODY];
     for number in 0..MOST {
-        match read_case(alloc, file) {
-            Ok(Some(case)) => replay.run(rt, alloc, number, &case)?,
+        match read_case(file, &mut body) {
+            Ok(Some(case)) => replay.run(rt, number, case)?,
             Ok(None) => break,
             Err(Unread::Failed(error)) => return Err(error),
             Err(Unread::CutShort) => {
@@ -260,5 +243,5 @@ fn main(rt: HostRuntime) -> io::Result<()> {
         Ok(file) => file,
         Err(error) => return input::report(&rt, "vectors.bin", error),
     };
-    replay_all(&rt, rt.alloc(), &mut file)?.print(&rt)
+    replay_all(&rt, &mut file)?.print(&rt)
 }

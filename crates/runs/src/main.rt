@@ -19,10 +19,16 @@
 #![tactic(auto)]
 
 use buffers::{Expected, Run, counts_of, entries, entries_in};
+use cases::Filled;
 use engine::Counts;
 use registers::Entry;
-use std::alloc::{AllocError, Global};
 use std::io;
+
+// How long a case's buffers are at most: the received one has room for the longest read and a byte more, the record for
+// 128 accesses.
+const ROOM: usize = 259;
+
+const WORDS: usize = 256;
 
 // What the numbers after a letter are: the list's, or those of its own.
 #[derive(Clone, Copy)]
@@ -36,36 +42,36 @@ enum Letter {
 
 // A case as far as it has been read.
 #[derive(Drop)]
-struct Case {
+struct Case<'a> {
     // The lengths of the received buffer, and of the record in words.
     room: usize,
     words: usize,
-    list: Vec<u8>,
-    readings: Vec<u32>,
+    list: Filled<'a, u8>,
+    readings: Filled<'a, u32>,
     // From the document: the words of the accesses, the received bytes, the answer and the four counts.
-    accesses: Vec<u32>,
-    received: Vec<u8>,
-    counts: Vec<u32>,
+    accesses: Filled<'a, u32>,
+    received: Filled<'a, u8>,
+    counts: Filled<'a, u32>,
 }
 
-impl Case {
-    // The end from the document, where it is whole.
-    fn end(&self) -> Option<Counts> {
-        <[u32; 5]>::try_from(self.counts.as_slice())
-            .ok()
-            .map(|numbers| counts_of(numbers))
+impl<'a> Case<'a> {
+    // The end from the document. A number that is missing is 0.
+    fn end(&self) -> Counts {
+        let mut numbers = [0; 5];
+        for (number, count) in numbers.iter_mut().zip(self.counts.as_slice()) {
+            *number = *count;
+        }
+        counts_of(numbers)
     }
 
     // Whether the run did what was written down, and nothing else.
-    fn agrees(&self, run: &Run) -> bool {
-        self.end().is_some_and(|counts| {
-            let expected = Expected {
-                record: &self.accesses,
-                received: &self.received,
-                counts,
-            };
-            run.compare(expected).is_ok()
-        })
+    fn agrees(&self, run: &Run<'_>) -> bool {
+        let expected = Expected {
+            record: self.accesses.as_slice(),
+            received: self.received.as_slice(),
+            counts: self.end(),
+        };
+        self.counts.as_slice().len() == 5 && run.compare(expected).is_ok()
     }
 }
 
@@ -103,61 +109,66 @@ fn print_received(rt: &impl Print, bytes: &[u8], got: &[u8]) -> io::Result<()> {
     show::line_end(rt)
 }
 
-// The answer and the counts from both sides, a mark where the document's are not whole.
-fn print_end(rt: &impl Print, document: Option<Counts>, run: Counts) -> io::Result<()> {
+// The answer and the counts from both sides.
+fn print_end(rt: &impl Print, document: Counts, run: Counts) -> io::Result<()> {
     print!(rt; "  document ")?;
-    match document {
-        Some(counts) => show::end(rt, counts)?,
-        None => print!(rt; "-")?,
-    }
+    show::end(rt, document)?;
     print!(rt; ", run ")?;
     show::end(rt, run)?;
     show::line_end(rt)
 }
 
-impl cases::Case for Case {
+impl<'a> cases::Case for Case<'a> {
     type Letter = Letter;
 
-    ghost list = { λ case. case.list.items };
+    const LETTER_LASTS: bool = false;
 
-    fn new(alloc: Global, room: u32, words: u32) -> Case {
-        Case {
-            room: room as usize,
-            words: words as usize,
-            list: Vec::new(alloc),
-            readings: Vec::new(alloc),
-            accesses: Vec::new(alloc),
-            received: Vec::new(alloc),
-            counts: Vec::new(alloc),
+    ghost use Rattle.cases.specs.Items.{items};
+
+    ghost list = { λ case. items case.list };
+
+    fn start(&mut self, room: u64, words: u64) {
+        self.room = room as usize;
+        self.words = words as usize;
+        self.list.clear();
+        self.readings.clear();
+        self.accesses.clear();
+        self.received.clear();
+        self.counts.clear();
+    }
+
+    fn letter(first: u8) -> Option<Letter> {
+        match first {
+            b'r' => Some(Letter::Readings),
+            b'a' => Some(Letter::Accesses),
+            b'g' => Some(Letter::Received),
+            b'c' => Some(Letter::Counts),
+            _ => cases::Letter::of(first).map(Letter::List),
         }
     }
 
-    fn letter(word: &str) -> Option<Letter> {
-        match word {
-            "r" => Some(Letter::Readings),
-            "a" => Some(Letter::Accesses),
-            "g" => Some(Letter::Received),
-            "c" => Some(Letter::Counts),
-            _ => cases::Letter::of(word).map(Letter::List),
-        }
-    }
-
-    // Of a received byte the lowest eight bits are taken.
-    fn put(&mut self, letter: Letter, number: u32) -> Result<(), AllocError> {
+    // Of a word the lowest 32 bits are taken, of a received byte the lowest eight.
+    fn put(&mut self, letter: Letter, number: u64) {
+        let word = (number % 4294967296) as u32;
         match letter {
             Letter::List(letter) => letter.put(&mut self.list, number),
-            Letter::Readings => Ok(self.readings.push(number)?),
-            Letter::Accesses => Ok(self.accesses.push(number)?),
-            Letter::Received => Ok(self.received.push((number % 256) as u8)?),
-            Letter::Counts => Ok(self.counts.push(number)?),
+            Letter::Readings => self.readings.push(word),
+            Letter::Accesses => self.accesses.push(word),
+            Letter::Received => self.received.push((word % 256) as u8),
+            Letter::Counts => self.counts.push(word),
         }
     }
 
-    fn run(&self, rt: &impl Print, alloc: Global, name: &str) -> io::Result<bool> {
-        let run = Run::on(alloc, &self.list, &self.readings, self.room, self.words)?;
-        println!(rt; "{name}:")?;
-        print_accesses(rt, &self.accesses, run.record())?;
-        print_received(rt, &self.received, run.received())?;
+    fn run(&self, rt: &impl Print, name: &[u8]) -> io::Result<bool> {
+        let list = self.list.as_slice();
+        let readings = self.readings.as_slice();
+        let mut rx = [0; ROOM];
+        let mut log = [0; WORDS];
+        let run = Run::on(list, readings, &mut rx, self.room, &mut log, self.words);
+        rt.write_all(name)?;
+        println!(rt; ":")?;
+        print_accesses(rt, self.accesses.as_slice(), run.record())?;
+        print_received(rt, self.received.as_slice(), run.received())?;
         print_end(rt, self.end(), run.counts())?;
         let agrees = self.agrees(&run);
         println!(rt; "  {}", if agrees { "agrees" } else { "DIFFERS" })?;
@@ -166,6 +177,21 @@ impl cases::Case for Case {
 }
 
 fn main(rt: HostRuntime) -> io::Result<()> {
-    let text = io::read_to_string(rt.alloc(), rt.stdin())?;
-    cases::run_all::<Case>(&rt, rt.alloc(), text.as_str())
+    let mut text = [0u8; 65536];
+    let size = input::read_full(&mut rt.stdin(), &mut text)?;
+    let mut list = [0; 4096];
+    let mut readings = [0; 1024];
+    let mut accesses = [0; 2048];
+    let mut received = [0; 4096];
+    let mut counts = [0; 8];
+    let mut case = Case {
+        room: 0,
+        words: 0,
+        list: Filled::new(&mut list),
+        readings: Filled::new(&mut readings),
+        accesses: Filled::new(&mut accesses),
+        received: Filled::new(&mut received),
+        counts: Filled::new(&mut counts),
+    };
+    cases::run_all(&rt, &text[..size], &mut case)
 }

@@ -13,7 +13,7 @@ use Rattle.registers.specs.declared.access.Bus.{Bus}
 use Rattle.registers.specs.Access.{is_data, clear_word, Access}
 use Rattle.registers.specs.Machine.{Step, Handler, Act, access, next, handle, clear, since, polled_register, poll_error, poll_ready, after_poll}
 use Rattle.registers.specs.State.{State, at, Took, Found, read}
-use Rattle.registers.specs.Contract.{read_code, state, Same, found_of, handled, Reads, Writes, Does, Reaches, Waits, word_after, ReadsNext}
+use Rattle.registers.specs.Contract.{state, Same, found_of, handled, ReadsAt, Writes, Does, Reaches, Waits, word_after, ReadsNext}
 use Rattle.registers.proofs.Laws.{write_unfailed}
 use Rattle.registers.proofs.Steps.{same_then, HandsOn, rewritten, write_does, call_step, call_stops, read_step, read_stops}
 use Rattle.timed.specs.Poll.{no_error, over, WaitsOn}
@@ -74,8 +74,8 @@ cut_waits {h} {q} {b} {b'} {stop} {r} u n x = go r stop u n x
     go (Err (Stop.CutShort c)) stop u n x = record { same = x.same; is = λ p. x.is p }
 
 -- a read does not fail
-read_unfailed : {c : ReadCode} {b b' : Bus} {r : Result ℕ Stop} {stop : Stop} → Reads c b b' r → r ≡ Err stop → (e : BusError) → stop ≡ Stop.Failed e → ⊥
-read_unfailed {c} {b} {b'} x f e g = go (read (read_code c) (state b)) (rw (f, g) at x.is)
+read_unfailed : {c : ℕ} {b b' : Bus} {r : Result ℕ Stop} {stop : Stop} → ReadsAt c b b' r → r ≡ Err stop → (e : BusError) → stop ≡ Stop.Failed e → ⊥
+read_unfailed {c} {b} {b'} x f e g = go (read c (state b)) (rw (f, g) at x.is)
   where
     go : (t : Took) → Found.failed e (state b') ≡ found_of t → ⊥
     go (Took.word v st) k = let z : ◌≡◌ {A = ℕ} 0 1 = cc in omega arith
@@ -87,7 +87,7 @@ ends_handled g = record { same = g.same; is = λ p. g.is p }
 
 -- a wait ends where a read has no word, and where its error flag is not cleared
 module _ {h : Handler} {q : List Step} {b : Bus} {i : Step} {q₁ : List Step} {b₁ : Bus} (g : Reaches q b (i ∷ q₁) b₁)
-    {c : ReadCode} {b₂ : Bus} {r : Result ℕ Stop} (x : Reads c b₁ b₂ r) (a : access i ≡ Act.make (Access.read (read_code c))) where
+    {c : ℕ} {b₂ : Bus} {r : Result ℕ Stop} (x : ReadsAt c b₁ b₂ r) (a : access i ≡ Act.make (Access.read c)) where
   pub wait_unread : {stop : Stop} {r' : Result ⊤ Stop} → r ≡ Err stop → HandsOn stop r' → Waits h q b b₂ r'
   wait_unread e u = cut_waits u (read_unfailed x e) (read_stops g x a e u)
 
@@ -101,7 +101,7 @@ module _ {h : Handler} {q : List Step} {b b₁ : Bus} (w : Awaited) (l t v : ℕ
 
 -- a poll's read
 pub poll_step : {q : List Step} {b : Bus} {w : Awaited} {l : ℕ} {h : Handler} {t : ℕ} {b₁ : Bus} → Reaches q b (Step.poll w l h t ∷ []) b₁
-    → {c : ReadCode} → read_code c ≡ polled_register w → {b₂ : Bus} {r : Result ℕ Stop} → Reads c b₁ b₂ r → {v : ℕ} → r ≡ Ok v
+    → {c : ℕ} → c ≡ polled_register w → {b₂ : Bus} {r : Result ℕ Stop} → ReadsAt c b₁ b₂ r → {v : ℕ} → r ≡ Ok v
     → Reaches q b (next b.setup (Step.poll w l h t) v) b₂
 poll_step {w = w} g f x e = rewritten (append-nil _) (read_step g x (rw f) (rw f (polled_other w)) e refl)
 

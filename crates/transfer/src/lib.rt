@@ -1,16 +1,19 @@
 // The bytes of a polling operation, once it is prepared, named and ordered as the Rust's src/i2c.rs.
 #![tactic(auto)]
 
-ghost use Rattle.std.specs.Prelude.{◌≡◌, ◌≤◌, ◌-◌, ◌&&◌, length, drop};
+ghost use Rattle.std.specs.Prelude.{◌≡◌, ◌≤◌, ◌-◌, ◌&&◌, ◌++◌, length, drop, List};
 ghost use Rattle.buslist.specs.Meaning.{Operation};
 ghost use Rattle.registers.specs.Word.{has, TXE, BTF, RXNE};
-ghost use Rattle.registers.specs.Contract.{Does, Reaches};
+ghost use Rattle.registers.specs.Machine.{Step};
+ghost use Rattle.registers.specs.State.{at, then, resume};
+ghost use Rattle.registers.specs.Contract.{Does, Reaches, outcome};
 ghost use Rattle.checks.specs.Flags.{no_error_flag};
 ghost use Rattle.i2c.specs.Polling.{send_byte, recv_byte, write_bytes, read_bytes, last_write, last_read, transfer};
 
 use checks::{check_twice, check_until, no_error_flag, until_stop_clear};
 use i2c::send_stop;
-use registers::{Bits, Bus, BusError, ReadCode, Source, Stop, WriteCode, has};
+use registers::{Bits, Bus, BusError, Progress, ReadCode, Source, Stop, WriteCode, has};
+use units::Setup;
 
 // Whether both checks of a byte are over at once, by the words that they read.
 fn sent_at_once(before: u32, after: u32) -> bool
@@ -40,13 +43,67 @@ fn send_ready(bus: &mut Bus, bytes: &[u8]) -> usize
     count
 }
 
+// Sends each byte in its turn, by `send_byte`.
+#[inline(always)]
+fn send_each(bus: &mut Bus, bytes: &[u8]) -> Result<(), Stop>
+    ensures { Does (write_bytes bytes.now) bus.old bus.new result }
+{
+    for byte in bytes {
+        send_byte(bus, *byte)?;
+    }
+    Ok(())
+}
+
+// The same, not inlined: in the loop of the calls these waits keep parts of the bus in memory at each look. It takes the
+// bus by its parts: a call that takes `&mut Bus` keeps the bus in memory in each function that writes.
+#[cold]
+#[inline(never)]
+fn send_late(
+    setup: Setup,
+    readings: &[u32],
+    log: &mut [u32],
+    rx: &mut [u8],
+    progress: Progress,
+    bytes: &[u8],
+) -> (Progress, Result<(), Stop>)
+    ensures { (p : List Step) → resume setup (write_bytes bytes.now ++ p) (at readings.now log.old rx.old progress) ≡ then (outcome (at readings.now log.new rx.new result.0) result.1) (resume setup p) }
+{
+    let mut bus = Bus {
+        setup,
+        readings,
+        log,
+        rx,
+        progress,
+    };
+    let sent = send_each(&mut bus, bytes);
+    (bus.progress, sent)
+}
+
+// Sends the bytes after those that are sent at once. No part of `write_bytes`: the place for its answer is set up where it
+// is called, and only late bytes need it.
+#[inline(always)]
+fn send_rest(bus: &mut Bus, bytes: &[u8]) -> Result<(), Stop>
+    ensures { Does (write_bytes bytes.now) bus.old bus.new result }
+{
+    let (progress, sent) = send_late(
+        bus.setup,
+        bus.readings,
+        &mut *bus.log,
+        &mut *bus.rx,
+        bus.progress,
+        bytes,
+    );
+    bus.progress = progress;
+    sent
+}
+
 #[inline(always)]
 fn write_bytes(bus: &mut Bus, bytes: &[u8]) -> Result<(), Stop>
     ensures { Does (write_bytes bytes.now) bus.old bus.new result }
 {
     let ready = send_ready(bus, bytes);
-    for byte in &bytes[ready..] {
-        send_byte(bus, *byte)?;
+    if ready < bytes.len() {
+        return send_rest(bus, &bytes[ready..]);
     }
     Ok(())
 }
@@ -62,6 +119,7 @@ fn send_byte(bus: &mut Bus, byte: u8) -> Result<(), Stop>
 
 #[inline(always)]
 fn recv_byte(bus: &mut Bus) -> Result<(), Stop>
+    requires { bus.old.progress.got ≤ bus.old.progress.used }
     ensures { Does recv_byte bus.old bus.new result }
 {
     check_twice(bus, registers::RXNE, Source::Data)?;
@@ -79,7 +137,9 @@ fn received_at_once(checked: u32, again: u32) -> bool
 // `recv_byte`, as in `send_ready`.
 #[inline(always)]
 fn recv_ready(bus: &mut Bus, count: usize) -> usize
-    ensures { (result ≤ count) × Reaches (read_bytes count) bus.old (read_bytes (count - result)) bus.new }
+    requires { bus.old.progress.got ≤ bus.old.progress.used }
+    ensures bytes { (result ≤ count) × Reaches (read_bytes count) bus.old (read_bytes (count - result)) bus.new }
+    ensures fewer { bus.new.progress.got ≤ bus.new.progress.used }
 {
     let fit = bus.bytes_that_fit(count);
     for i in 0..fit {
@@ -95,6 +155,7 @@ fn recv_ready(bus: &mut Bus, count: usize) -> usize
 
 #[inline(always)]
 fn read_bytes(bus: &mut Bus, count: usize) -> Result<(), Stop>
+    requires { bus.old.progress.got ≤ bus.old.progress.used }
     ensures { Does (read_bytes count) bus.old bus.new result }
 {
     let ready = recv_ready(bus, count);
@@ -107,6 +168,7 @@ fn read_bytes(bus: &mut Bus, count: usize) -> Result<(), Stop>
 // Reads like normal but doesn't generate START and doesn't send the address.
 #[inline(always)]
 fn read_wo_prepare(bus: &mut Bus, count: usize) -> Result<(), Stop>
+    requires { bus.old.progress.got ≤ bus.old.progress.used }
     ensures { Does (last_read count) bus.old bus.new result }
 {
     if count == 0 {
@@ -144,6 +206,7 @@ pub fn write_transfer(bus: &mut Bus, last: bool, bytes: &[u8]) -> Result<(), Sto
 // The bytes of a read in a call, once prepared.
 #[tactic(auto, unfolding(i2c::specs::Polling::transfer))]
 pub fn read_transfer(bus: &mut Bus, last: bool, count: usize) -> Result<(), Stop>
+    requires { bus.old.progress.got ≤ bus.old.progress.used }
     ensures { Does (transfer last (Operation.read count)) bus.old bus.new result }
 {
     if last {

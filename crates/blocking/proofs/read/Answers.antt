@@ -1,11 +1,12 @@
 use Prim.Native.Nat.{ℕ, zero, suc}
+use native.Mathlib.Omega.{arith}
 use mathlib.Core.Bool.{true}
 use mathlib.Core.Path.{◌≡◌, refl, ap}
 use mathlib.Core.List.{◌++◌}
 use Rattle.units.specs.declared.Setup.{Setup}
 use Rattle.blocking_write.specs.Write.{send_start_and_wait, send_addr_and_wait}
 use Rattle.blocking.specs.Blocking.{read_arm, read_steps}
-use Rattle.registers.proofs.Steps.{here, at_setup, call_step, call_stops, call_last, ends_well, rewritten}
+use Rattle.registers.proofs.Steps.{here, at_setup, call_step, call_stops, call_last, ends_well, rewritten, keeps_fewer}
 use Rattle.blocking.proofs.read.Goals as goal
 
 -- something to read
@@ -26,6 +27,9 @@ pub returns-in_err-send_addr_and_wait : goal.returns-in_err-send_addr_and_wait
 returns-in_err-send_addr_and_wait c =
     let started = call_step c.send_start_and_wait.ensures _ (rewritten (not_empty _ c.args.addr _ c.if-count-eq0.false) here) c.in_ok-send_start_and_wait.was in
     call_stops (at_setup started.same (λ s. send_addr_and_wait s c.args.addr true) c.send_addr_and_wait.ensures) _ started c.in_err-send_addr_and_wait.was c.from_residual-in_err-send_addr_and_wait.ensures
+
+pub read_arm-requires : goal.read_arm-requires
+read_arm-requires c = (keeps_fewer c.send_addr_and_wait.ensures (keeps_fewer c.send_start_and_wait.ensures c.requires), omega arith)
 
 pub returns : goal.returns
 returns c =

@@ -23,4 +23,4 @@ returns-in-2 c =
 
 pub returns-in_default : goal.returns-in_default
 returns-in_default c =
-    call_last (rewritten (more _ _ c.requires (λ e. omega arith) (λ e. omega arith)) here) c.read_more.ensures
+    call_last (rewritten (more _ _ c.requires.1 (λ e. omega arith) (λ e. omega arith)) here) c.read_more.ensures

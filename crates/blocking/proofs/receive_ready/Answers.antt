@@ -11,7 +11,7 @@ use Rattle.registers.specs.Word.{RXNE}
 use Rattle.registers.specs.Machine.{Step}
 use Rattle.registers.specs.Contract.{Reaches, word_after, ReadsNext, ReceivesNext}
 use Rattle.registers.proofs.Fits.{byte_fits, fewer_fit}
-use Rattle.registers.proofs.Steps.{rewritten, call_step}
+use Rattle.registers.proofs.Steps.{rewritten, call_step, read_fewer, keeps_fewer}
 use Rattle.timed.specs.Poll.{over}
 use Rattle.timed.proofs.Waiting.{wait_at_once}
 use Rattle.blocking.specs.Blocking.{receive}
@@ -25,8 +25,10 @@ byte_at_once : {q : List Step} {b : Bus} {q₁ : List Step} {b₁ : Bus} → Rea
 byte_at_once g x y z o = call_step z.does _ (wait_at_once g x y o) refl
 
 pub record_data-requires : goal.record_data-requires
-record_data-requires c =
-    c.record_read-in-loop-i.ensures.fits 2 (c.record_read.ensures.fits 3 (byte_fits c.loop-i.bus _ c.loop-i.i c.loop-i-test.true c.loop-i.invariant.1 (omega arith)))
+record_data-requires c = (
+  c.record_read-in-loop-i.ensures.fits 2 (c.record_read.ensures.fits 3 (byte_fits c.loop-i.bus _ c.loop-i.i c.loop-i-test.true c.loop-i.invariant.fits (omega arith))),
+  read_fewer c.record_read-in-loop-i.ensures.reads (read_fewer c.record_read.ensures.reads c.loop-i.invariant.fewer),
+)
 
 pub loop-i-preserved : goal.loop-i-preserved
 loop-i-preserved c =
@@ -35,7 +37,9 @@ loop-i-preserved c =
     let z = c.record_data.ensures in
     let k = c.bytes_that_fit-fit.ensures.0 in
     let h : c.loop-i.i < c.args.count = omega (arith, k, c.loop-i-test.true) in
-    let o = sym (c.wait_for_flag.ensures Source.Data) ∙ c.if-not-wait_for_flag.false in (
-      byte_at_once (rewritten (next-byte _ _ _ h) c.loop-i.invariant.0) x y z (rw c.sr1_after.ensures at o),
-      fewer_fit c.record_data.new.self c.bytes_that_fit-fit.result c.loop-i.i (z.fits _ (y.fits _ (x.fits _ c.loop-i.invariant.1))),
-    )
+    let o = sym (c.wait_for_flag.ensures Source.Data) ∙ c.if-not-wait_for_flag.false in
+    record {
+      reaches = byte_at_once (rewritten (next-byte _ _ _ h) c.loop-i.invariant.reaches) x y z (rw c.sr1_after.ensures at o);
+      fits = fewer_fit c.record_data.new.self c.bytes_that_fit-fit.result c.loop-i.i (z.fits _ (y.fits _ (x.fits _ c.loop-i.invariant.fits)));
+      fewer = keeps_fewer z.does (read_fewer y.reads (read_fewer x.reads c.loop-i.invariant.fewer));
+    }

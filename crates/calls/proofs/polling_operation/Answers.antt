@@ -10,7 +10,7 @@ use Rattle.buslist.specs.declared.OperationEntry.{OperationEntry}
 use Rattle.buslist.specs.Meaning.{write, read, bytes_of, operation_of}
 use Rattle.registers.specs.declared.BusError.{BusError}
 use Rattle.registers.specs.Machine.{Step}
-use Rattle.registers.proofs.Steps.{here, rewritten, call_step, call_stops, call_last, ends_failed}
+use Rattle.registers.proofs.Steps.{here, rewritten, call_step, call_stops, call_last, ends_failed, keeps_fewer}
 use Rattle.i2c.specs.declared.Previous.{Previous}
 use Rattle.i2c.specs.Polling.{turn, transfer, operation_steps}
 use Rattle.prepare.specs.Turn.{turn_to}
@@ -65,6 +65,9 @@ returns-in_err-turn c =
     let t = rw c.is_write-read.ensures at c.if-read-early.false in
     rw (← c.early.ensures, ← c.from-addr.ensures)
     (call_stops (rw c.is_write-read.ensures at c.turn.ensures) _ (rewritten (turns c.args.list.now c.args.o _ _ _ _ t) here) c.in_err-turn.was c.from_residual.ensures)
+
+pub read_transfer-requires : goal.read_transfer-requires
+read_transfer-requires c = keeps_fewer c.turn.ensures c.requires
 
 pub returns-then-read : goal.returns-then-read
 returns-then-read c =

@@ -1,5 +1,5 @@
 -- The labelled loops: after k calls the calls from k on are left, and within a call its operations from j on.
-use Prim.Native.Nat.{◌-◌}
+use Prim.Native.Nat.{◌-◌, ◌≤◌}
 use mathlib.Core.Path.{◌≡◌}
 use mathlib.Core.List.{map}
 use Rattle.std.specs.Prelude.{Ok}
@@ -13,8 +13,11 @@ use Rattle.calls.proofs.run_on.Given as goal
 
 abbrev pub invariant-loop-j : goal.invariant-loop-j
 invariant-loop-j l =
-    Reaches (rest_steps l.fn.setup l.call l.initial.previous (operations_from l.list l.initial.j l.end)) l.initial.bus
-    (rest_steps l.fn.setup l.call l.previous (operations_from l.list l.j l.end)) l.bus
+    record {
+      reaches : Reaches (rest_steps l.fn.setup l.call l.initial.previous (operations_from l.list l.initial.j l.end)) l.initial.bus
+          (rest_steps l.fn.setup l.call l.previous (operations_from l.list l.j l.end)) l.bus;
+      fewer : l.bus.progress.got ≤ l.bus.progress.used;
+    }
 
 abbrev pub decreases-loop-j : goal.decreases-loop-j
 decreases-loop-j l = l.end - l.j
@@ -23,6 +26,7 @@ abbrev pub invariant-calls : goal.invariant-calls
 invariant-calls l =
     record {
       same : Same l.initial.bus l.bus;
+      fewer : l.bus.progress.got ≤ l.bus.progress.used;
       done : l.calls ≡ l.k;
       well : l.outcome ≡ Ok tt;
       left : Left l.fn.setup (map (steps_of l.fn.setup) (calls_of l.list)) (state l.initial.bus) l.k (calls_from l.fn.setup l.list l.k l.count) (state l.bus);

@@ -1,8 +1,8 @@
 use mathlib.Core.Path.{ap, ◌∙◌}
-use Rattle.std.proofs.Common.{rules}
+use Rattle.std.proofs.Common.{rules, arith}
 use Rattle.buslist.proofs.Accept.{ranges}
 use Rattle.units.specs.Setup.{setup_of}
-use Rattle.registers.proofs.Steps.{same_then}
+use Rattle.registers.proofs.Steps.{same_then, starts_fewer, keeps_fewer}
 use Rattle.calls.proofs.CallLaws.{first_stops, first_done}
 use Rattle.engine.proofs.Result.{run_meant, with_setup}
 use Rattle.engine.proofs.run_accepted.Goals as goal
@@ -17,7 +17,7 @@ returns-in_default c =
     (first_stops _ c.new-bus.ensures.with_setup c.init-outcome.ensures c.in_default.not-Ok))
 
 pub run_calls-stopped-requires : goal.run_calls-stopped-requires
-run_calls-stopped-requires c = (_, c.requires)
+run_calls-stopped-requires c = ((_, c.requires), keeps_fewer c.init-outcome.ensures (starts_fewer c.new-bus.ensures (omega arith)))
 
 pub returns : goal.returns
 returns c =

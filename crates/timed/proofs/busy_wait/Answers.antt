@@ -21,4 +21,4 @@ pub returns : goal.returns
 returns c h =
     let first = read_step here c.read.ensures refl refl c.in_ok-start.was (next_timed _ _ _ h _) in
     let polled = poll_step first c.polled_register.ensures c.read-2.ensures c.in_ok-word.was in
-    waits_by_parts polled (record { setup = refl; readings = refl; log = refl; rx = refl }) c.busy_wait_on-waited.ensures.waits
+    waits_by_parts polled (record { setup = refl; readings = refl; log = refl; rx = refl }) c.busy_wait_on-waited.ensures

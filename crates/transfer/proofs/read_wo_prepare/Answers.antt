@@ -6,7 +6,7 @@ use mathlib.Core.List.{[], ◌∷◌, ◌++◌}
 use Rattle.registers.specs.declared.BusError.{BusError}
 use Rattle.registers.specs.Word.{one, STOP, ACK}
 use Rattle.registers.specs.Machine.{Step}
-use Rattle.registers.proofs.Steps.{here, rewritten, ends_failed}
+use Rattle.registers.proofs.Steps.{here, rewritten, ends_failed, keeps_fewer}
 use Rattle.i2c.specs.Polling.{recv_byte, read_bytes, last_read}
 use Rattle.transfer.proofs.read_wo_prepare.Goals as goal
 
@@ -28,6 +28,9 @@ returns-in_err-read_bytes c = call_stops c.read_bytes.ensures _ (rewritten (some
 
 pub returns-in_err-modify_cr1 : goal.returns-in_err-modify_cr1
 returns-in_err-modify_cr1 c = call_stops c.modify_cr1.ensures _ (call_step c.read_bytes.ensures _ (rewritten (some_byte _ c.if-count-eq0.false) here) c.in_ok-read_bytes.was) c.in_err-modify_cr1.was c.from_residual-in_err-modify_cr1.ensures
+
+pub recv_byte-requires : goal.recv_byte-requires
+recv_byte-requires c = keeps_fewer c.modify_cr1.ensures (keeps_fewer c.read_bytes.ensures c.requires)
 
 pub returns-in_err-recv_byte : goal.returns-in_err-recv_byte
 returns-in_err-recv_byte c = call_stops c.recv_byte.ensures _ (call_step c.modify_cr1.ensures _ (call_step c.read_bytes.ensures _ (rewritten (some_byte _ c.if-count-eq0.false) here) c.in_ok-read_bytes.was) c.in_ok-modify_cr1.was) c.in_err-recv_byte.was c.from_residual-in_err-recv_byte.ensures

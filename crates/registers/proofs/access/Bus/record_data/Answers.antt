@@ -25,7 +25,7 @@ still_fits {b = b} {b'} x n h =
     rw (x.same.readings, u, l, m) h
 
 pub take_byte-requires : goal.take_byte-requires
-take_byte-requires c = let n = read-counts c.record_read-word.ensures.reads refl in let h = c.args.self.now.fewer in omega arith
+take_byte-requires c = let n = read-counts c.record_read-word.ensures.reads refl in omega arith
 
 pub returns : goal.returns
 returns c =

@@ -1,0 +1,5 @@
+use Rattle.registers.proofs.Steps.{keeps_fewer}
+use Rattle.blocking.proofs.receive.Goals as goal
+
+pub read_data-requires : goal.read_data-requires
+read_data-requires c = keeps_fewer c.read_wait.ensures c.requires
