@@ -25,16 +25,16 @@ use Rattle.registers.specs.declared.Progress.{Progress}
 use Rattle.registers.specs.declared.Stop.{Stop}
 use Rattle.registers.specs.declared.access.Bus.{Bus}
 use Rattle.registers.specs.Machine.{Step, bring_up}
-use Rattle.registers.specs.State.{State, at, resume, then}
+use Rattle.registers.specs.State.{State, After, at, resume, then}
 use Rattle.registers.specs.Contract.{state, Same, outcome, Does, Reaches, Starts}
-use Rattle.registers.proofs.Laws.{done_law}
+use Rattle.registers.proofs.Laws.{done_law, Fewer, state_after, after_fewer}
 use Rattle.registers.proofs.Steps.{NotOk, rewritten, call_step, call_fails, call_last}
 use Rattle.i2c.specs.declared.Previous.{Previous}
 use Rattle.i2c.specs.Polling.{polling_steps, is_last}
 use Rattle.blocking_write.specs.Write.{write_without_stop}
 use Rattle.blocking.specs.Blocking.{read_steps, done_last, blocking_steps, operation_steps as blocking_operation}
 use Rattle.calls.specs.Calls.{early, operations_steps, performed, steps_of}
-use Rattle.calls.specs.Whole.{operation_steps, entry_steps, moved, rest_steps, Takes, end_steps, more_calls, after_calls, calls_run, final, Ends, EndsCalls, Left}
+use Rattle.calls.specs.Whole.{operation_steps, entry_steps, moved, rest_steps, Takes, end_steps, more_calls, after_calls, calls_run, Final, final, Ends, EndsCalls, Left}
 
 -- no call is done yet
 pub calls-start : {s : Setup} {cs : List (List Step)} {st : State} → Left s cs st 0 cs st
@@ -245,3 +245,17 @@ ends_calls l {readings} y x f g =
   where
     readings_of : State → List ℕ
     readings_of (at rs lg rx b) = rs
+
+-- the bytes received are at most the readings used, after calls as before them
+calls_fewer : (s : Setup) (cs : List (List Step)) (st : State) → Fewer st → Fewer (calls_run s cs st).state
+unfolding calls_run
+calls_fewer s [] st h = h
+calls_fewer s (c ∷ cs) st h = go (resume s c st) (after_fewer s c st h) (calls_fewer s cs)
+  where
+    go : (a : After) → Fewer (state_after a) → ((st' : State) → Fewer st' → Fewer (calls_run s cs st').state) → Fewer (after_calls 1 a (calls_run s cs)).state
+    go (After.going st') k later = later st' k
+    go (After.failed e st') k later = k
+    go (After.cut_short c st') k later = k
+
+pub ends_fewer : {s : Setup} {cs : List (List Step)} {st st' : State} {k : ℕ} {r : Result ⊤ Stop} → Ends s cs st st' k r → Fewer st → Fewer st'
+ends_fewer x h = subst Fewer (ap (λ (f : Final). f.state) x.is) (calls_fewer _ _ _ h)

@@ -184,7 +184,8 @@ fn run_on(
 // The calls of a list that is accepted with a received buffer of some length.
 pub fn run_calls(bus: &mut Bus, list: &BusList<'_>) -> Stopped
     requires { ((x : ℕ) × (refusal list.now x ≡ 0)) × (bus.old.progress.got ≤ bus.old.progress.used) }
-    ensures { RunsCalls list.now bus.old bus.new result }
+    ensures ends { RunsCalls list.now bus.old bus.new result }
+    ensures fewer { bus.new.progress.got ≤ bus.new.progress.used }
 {
     let (progress, stopped) = run_on(
         list,

@@ -17,9 +17,11 @@ ghost use Rattle.cases.specs.Items.{items, capacity};
 ghost use Rattle.cases.specs.declared.Letter.{Letter};
 
 mod filled;
+mod words;
 
 pub use filled::Filled;
 use std::{fmt, io};
+pub use words::{Case, run_all};
 
 // What a digit stands for, a hexadecimal one too; 0 for any other byte.
 fn digit(byte: u8) -> u64
@@ -45,8 +47,8 @@ fn number(word: &[u8]) -> u64 {
     number
 }
 
-// What a program makes of the words of its cases.
-pub trait Case {
+// What a program makes of the words of its cases, where the text is bytes.
+pub trait ByteCase {
     // What the numbers after a letter are.
     type Letter: Copy;
 
@@ -90,7 +92,7 @@ struct Place<'a, L> {
 }
 
 // A word of a case's body.
-fn body<'a, C: Case>(
+fn body<'a, C: ByteCase>(
     rt: &impl Print,
     case: &mut C,
     tally: &mut Tally,
@@ -121,7 +123,7 @@ fn body<'a, C: Case>(
 }
 
 // One word of the text.
-fn step<'a, C: Case>(
+fn step<'a, C: ByteCase>(
     rt: &impl Print,
     case: &mut C,
     tally: &mut Tally,
@@ -144,9 +146,9 @@ fn step<'a, C: Case>(
     Ok(Place { next, ..place })
 }
 
-// Runs the cases of a text, and prints how many there were and how many of them differ. What stands before the first `=`
-// is of the case that is handed over, which has no name. What is printed stands in no clause.
-pub fn run_all<C: Case>(rt: &impl Print, text: &[u8], case: &mut C) -> io::Result<()> {
+// Runs the cases of a text of bytes, and prints how many there were and how many of them differ. What stands before the
+// first `=` is of the case that is handed over, which has no name. What is printed stands in no clause.
+pub fn run_bytes<C: ByteCase>(rt: &impl Print, text: &[u8], case: &mut C) -> io::Result<()> {
     let words = text.split(|byte| *byte == b'\n').flat_map(|line| {
         line.split(|byte| *byte <= b' ')
             .filter(|word| !word.is_empty())

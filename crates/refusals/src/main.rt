@@ -33,7 +33,7 @@ impl<'a> Case<'a> {
     }
 }
 
-impl<'a> cases::Case for Case<'a> {
+impl<'a> cases::ByteCase for Case<'a> {
     type Letter = Letter;
 
     const LETTER_LASTS: bool = true;
@@ -74,5 +74,5 @@ fn main(rt: HostRuntime) -> io::Result<()> {
         room: 0,
         list: Filled::new(&mut list),
     };
-    cases::run_all(&rt, &text[..size], &mut case)
+    cases::run_bytes(&rt, &text[..size], &mut case)
 }

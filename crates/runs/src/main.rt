@@ -118,7 +118,7 @@ fn print_end(rt: &impl Print, document: Counts, run: Counts) -> io::Result<()> {
     show::line_end(rt)
 }
 
-impl<'a> cases::Case for Case<'a> {
+impl<'a> cases::ByteCase for Case<'a> {
     type Letter = Letter;
 
     const LETTER_LASTS: bool = false;
@@ -193,5 +193,5 @@ fn main(rt: HostRuntime) -> io::Result<()> {
         received: Filled::new(&mut received),
         counts: Filled::new(&mut counts),
     };
-    cases::run_all(&rt, &text[..size], &mut case)
+    cases::run_bytes(&rt, &text[..size], &mut case)
 }

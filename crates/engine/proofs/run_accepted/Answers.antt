@@ -21,8 +21,8 @@ run_calls-stopped-requires c = ((_, c.requires), keeps_fewer c.init-outcome.ensu
 
 pub returns : goal.returns
 returns c =
-    let same = same_then c.init-outcome.ensures.same c.run_calls-stopped.ensures.same in
+    let same = same_then c.init-outcome.ensures.same c.run_calls-stopped.ensures.ends.same in
     rw c.counts_of-2.ensures
     (run_meant _ _ c.requires _ (c.setup_of-setup.ensures ∙ ap setup_of c.settings.ensures) c.new-bus.ensures same (let log = same.log in search rules) (let rx = same.rx in search rules)
     (first_done _ c.new-bus.ensures.with_setup c.init-outcome.ensures c.in-Ok.is
-    ∙ (with_setup (c.init-outcome.ensures.same.setup ∙ c.new-bus.ensures.with_setup) c.run_calls-stopped.ensures).is))
+    ∙ (with_setup (c.init-outcome.ensures.same.setup ∙ c.new-bus.ensures.with_setup) c.run_calls-stopped.ensures.ends).is))
